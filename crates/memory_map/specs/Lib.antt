@@ -1,0 +1,4 @@
+pub mod Range
+pub mod Image
+pub mod State
+pub mod Start
