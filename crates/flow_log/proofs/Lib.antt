@@ -1,0 +1,5 @@
+pub mod Members
+pub mod Growing
+pub mod Closing
+pub mod Induction
+pub mod Ordering

@@ -1,0 +1,5 @@
+pub mod Analysis
+pub mod Log
+pub mod Run
+pub mod Sound
+pub mod Ordered

@@ -1,0 +1,20 @@
+/// Why a location is left open. The order of the variants is that of the causes in every text.
+#[derive(Clone, Copy, Debug, PartialEq, Eq, PartialOrd, Ord)]
+pub enum Cause {
+    /// The executable bytes there are no listed instruction.
+    Bytes,
+    /// An import without a stub.
+    NoStub,
+    /// A branch target, return address or entered function that is no exact number.
+    Target,
+    /// A store whose address is unknown, or in no one known place.
+    Store,
+    /// A store to the stack that is not wholly in its window.
+    Stack,
+    /// A store to a block that is not wholly in it.
+    Block,
+    /// The instruction's bytes may have been written, or are unset.
+    Code,
+    /// A row there was not expanded.
+    Budget,
+}
