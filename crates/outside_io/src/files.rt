@@ -1,12 +1,11 @@
-ghost use Rattle.std.specs.Prelude.{◌≡◌, ◌≢◌, ℕ, List, Some, ◌<◌, ◌≤◌, length, IfOk, IfErr, OnOk, OnErr};
-ghost use Rattle.outside_io.specs.Outside.{held_in, IsWhole};
+ghost use Rattle.std.specs.Prelude.{◌≡◌, ◌≢◌, ℕ, List, Some, ◌-◌, ◌<◌, ◌≤◌, ◌^◌, length, IfOk, IfErr, OnOk, OnErr};
+ghost use Rattle.outside_io.specs.Outside.{held_in};
 ghost use Rattle.outside_io.specs.Refusals.{Exceeds};
 
+use crate::shelf::ShelfFault;
 use bit_words::NoMemory;
 use std::alloc::Global;
 use std::collections::BTreeMap;
-
-use crate::shelf::ShelfFault;
 
 /// Contents in memory, by name.
 pub type Files = BTreeMap<String, Vec<u8>>;
@@ -28,6 +27,7 @@ pub fn copy_of(alloc: Global, content: &[u8], limit: u64) -> Result<Vec<u8>, She
     ensures whole { IfOk result (λ copy. copy.items ≡ content.now) }
     ensures within { IfOk result (λ _. length content.now ≤ limit) }
     ensures refused { IfErr result (λ fault. Exceeds content.now limit fault) }
+    ensures read { result ≢ Err ShelfFault.Failed }
 {
     if content.len() as u64 > limit {
         return Err(ShelfFault::TooLong { seen: limit + 1 });

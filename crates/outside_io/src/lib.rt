@@ -4,6 +4,7 @@
 #![tactic(auto)]
 
 mod files;
+mod line_fault;
 mod memory_shelf;
 mod memory_sink;
 mod shelf;
@@ -11,9 +12,10 @@ mod sink;
 mod sure;
 mod writers;
 
+pub use line_fault::LineFault;
 pub use memory_shelf::MemoryShelf;
 pub use memory_sink::MemorySink;
 pub use shelf::{Shelf, ShelfFault};
 pub use sink::{PIECE, Sink, SinkFailed, write_all};
 pub use sure::{SureShelf, SureSink};
-pub use writers::{push_bytes, push_decimal, push_hex2, push_hex8, push_hex_bytes};
+pub use writers::{hex_digit, push_bytes, push_decimal, push_hex_bytes, push_hex2, push_hex8};

@@ -2,12 +2,11 @@ ghost use Rattle.std.specs.Prelude.{◌≡◌, ◌≢◌, ℕ, List, Some, IsTru
 ghost use Rattle.outside_io.specs.Outside.{held_in, IsWhole, is_listed, next_count};
 ghost use Rattle.outside_io.specs.Refusals.{Refused};
 
+use crate::files::{Files, copy_of, put_file};
+use crate::shelf::{Shelf, ShelfFault};
 use bit_words::NoMemory;
 use std::alloc::Global;
 use std::collections::BTreeMap;
-
-use crate::files::{Files, copy_of, put_file};
-use crate::shelf::{Shelf, ShelfFault};
 
 /// A shelf in memory, which fails where it is told to.
 #[derive(Drop)]
@@ -49,6 +48,7 @@ impl MemoryShelf {
     fn fail(&mut self) -> ShelfFault
         ensures failed { result ≡ ShelfFault.Failed }
         ensures counted { self.new ≡ record self.old { faults = next_count self.old.faults } }
+        ensures rising { self.old.faults ≤ self.new.faults }
     {
         self.faults = self.faults.saturating_add(1);
         ShelfFault::Failed

@@ -2,11 +2,10 @@ ghost use Rattle.std.specs.Prelude.{◌≡◌, List, [], Some, ◌<◌, ◌≤�
 ghost use Rattle.outside_io.specs.Outside.{Rose};
 ghost use Rattle.outside_io.specs.Sinking.{Sinking, fails, taken, after_write};
 
+use crate::sink::{Sink, SinkFailed};
 use bit_words::NoMemory;
 use std::alloc::Global;
 use std::marker::Model;
-
-use crate::sink::{Sink, SinkFailed};
 
 /// A sink in memory of a fixed room, which fails where it is told to.
 #[derive(Drop)]
@@ -33,7 +32,12 @@ impl Model for MemorySink {
 impl MemorySink {
     /// A sink that holds at most `room` bytes and takes at most `per_write` of them in one call. The writes with the
     /// numbers `fail_at` fail; the first write has number 1. All memory is taken here.
-    pub fn new(alloc: Global, room: usize, per_write: usize, fail_at: Vec<u64>) -> Result<MemorySink, NoMemory>
+    pub fn new(
+        alloc: Global,
+        room: usize,
+        per_write: usize,
+        fail_at: Vec<u64>,
+    ) -> Result<MemorySink, NoMemory>
         requires { 0 < per_write }
         ensures { IfOk result (λ sink. sink ≡ record { held = []; room = room; per_write = per_write; fail_at = fail_at.items; calls = 0; faults = 0 }) }
     {

@@ -38,8 +38,8 @@ pub fn write_all<K: Sink>(out: &mut K, bytes: &[u8]) -> Result<(), SinkFailed>
 {
     let mut done = 0;
     while done < bytes.len() {
-        let end = if bytes.len() - done > PIECE { done + PIECE } else { bytes.len() };
-        done += out.write(&bytes[done..end])?;
+        let rest = &bytes[done..];
+        done += out.write(&rest[..rest.len().min(PIECE)])?;
     }
     Ok(())
 }

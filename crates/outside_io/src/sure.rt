@@ -1,13 +1,12 @@
 ghost use Rattle.std.specs.Prelude.{◌≡◌, ◌≢◌, ℕ, List, [], Some, None, unwrap_or, ◌-◌, ◌<◌, ◌≤◌, ◌^◌, length, take, IfOk, IfErr, IsOk, OnOk, OnErr};
 ghost use Rattle.outside_io.specs.Outside.{held_in, surely_held, IsWhole};
 
-use bit_words::NoMemory;
-use std::alloc::Global;
-use std::collections::BTreeMap;
-
 use crate::files::{Files, copy_of, put_file};
 use crate::shelf::{Shelf, ShelfFault};
 use crate::sink::{Sink, SinkFailed};
+use bit_words::NoMemory;
+use std::alloc::Global;
+use std::collections::BTreeMap;
 
 /// A shelf in memory that never fails: under each name that was not put it holds the empty content.
 #[derive(Drop)]

@@ -5,6 +5,7 @@ use bit_words::NoMemory;
 use itoa::Buffer;
 
 /// The upper-case hexadecimal digit of a number below 16.
+#[tactic(auto, unfolding(crate::specs::Hex::hex_digit))]
 pub fn hex_digit(d: u8) -> u8
     requires { d < 16 }
     ensures { result ≡ hex_digit d }
@@ -22,6 +23,7 @@ pub fn push_bytes(out: &mut Vec<u8>, bytes: &[u8]) -> Result<(), NoMemory>
 }
 
 /// Appends the two upper-case hexadecimal digits of a byte.
+#[tactic(auto, unfolding(crate::specs::Hex::hex2))]
 pub fn push_hex2(out: &mut Vec<u8>, b: u8) -> Result<(), NoMemory>
     ensures ok { OnOk result (out.new.items ≡ out.old.items ++ hex2 b) }
     ensures err { OnErr result (out.new.items ≡ out.old.items) }
@@ -30,6 +32,7 @@ pub fn push_hex2(out: &mut Vec<u8>, b: u8) -> Result<(), NoMemory>
 }
 
 /// Appends the eight upper-case hexadecimal digits of a word.
+#[tactic(auto, unfolding(crate::specs::Hex::hex8))]
 pub fn push_hex8(out: &mut Vec<u8>, n: u32) -> Result<(), NoMemory>
     ensures ok { OnOk result (out.new.items ≡ out.old.items ++ hex8 n) }
     ensures err { OnErr result (out.new.items ≡ out.old.items) }
@@ -57,6 +60,7 @@ fn digit_at(n: u32, weight: u32) -> u8
 }
 
 /// Appends two digits for each byte, without spaces.
+#[tactic(auto, unfolding(crate::specs::Hex::hex_text))]
 pub fn push_hex_bytes(out: &mut Vec<u8>, bytes: &[u8]) -> Result<(), NoMemory>
     ensures ok { OnOk result (out.new.items ≡ out.old.items ++ hex_text bytes.now) }
     ensures err { OnErr result (out.new.items ≡ out.old.items) }
