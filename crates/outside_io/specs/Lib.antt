@@ -1,0 +1,4 @@
+pub mod Hex
+pub mod Outside
+pub mod Refusals
+pub mod Sinking
