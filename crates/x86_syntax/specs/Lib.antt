@@ -1,3 +1,4 @@
 pub mod Formats
 pub mod Spelling
 pub mod Decodes
+pub mod Text

@@ -5,6 +5,8 @@
 
 mod instr;
 mod table;
+mod text;
 
 pub use instr::{Address, Cond, Instr, Mnemonic, Operand, Repeat, Seg};
 pub use table::{Form, Map, Name, ROWS, Row};
+pub use text::write_instr;
