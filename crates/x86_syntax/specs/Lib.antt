@@ -1,0 +1,4 @@
+pub mod Formats
+pub mod Spelling
+pub mod Decodes
+pub mod Text
