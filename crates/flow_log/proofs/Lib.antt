@@ -3,3 +3,4 @@ pub mod Growing
 pub mod Closing
 pub mod Induction
 pub mod Ordering
+pub mod Orders

@@ -11,12 +11,8 @@ use Rattle.std.specs.Cmp.{IsTotalOrder, IsEquivalence}
 use Rattle.std.specs.declared.cmp.Ordering.{Ordering}
 use Rattle.std.specs.declared.cmp.Ordering.TheVariants.{Less, Equal, Greater}
 use Rattle.std.specs.Ordering.{ordering_reverse}
-use Rattle.flow_log.specs.Ordered.{insert_once, by_order, ordered_set}
+use Rattle.flow_log.specs.Ordered.{insert_once, by_order, ordered_set, IsExact}
 use Rattle.flow_log.proofs.Members.{Contains-here, Contains-later, Contains-cases, Contains-none}
-
--- equal by the order is the same
-pub record IsExact {X : Type 0} (cmp : X → X → Ordering) : Type 0 where
-  pub same : (x y : X) → cmp x y ≡ Equal → x ≡ y
 
 module _ {X : Type 0} (cmp : X → X → Ordering) (total : IsTotalOrder cmp) (exact : IsExact cmp) where
   -- below each member

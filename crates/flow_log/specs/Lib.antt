@@ -3,3 +3,4 @@ pub mod Log
 pub mod Run
 pub mod Sound
 pub mod Ordered
+pub mod Orders

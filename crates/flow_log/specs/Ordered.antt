@@ -1,7 +1,11 @@
 -- Lists in order with each member once.
-use Rattle.std.specs.Prelude.{List, [], ◌∷◌, fold}
+use Rattle.std.specs.Prelude.{◌≡◌, List, [], ◌∷◌, fold}
 use Rattle.std.specs.declared.cmp.Ordering.{Ordering}
 use Rattle.std.specs.declared.cmp.Ordering.TheVariants.{Less, Equal, Greater}
+
+-- equal by the order is the same
+pub record IsExact {X : Type 0} (cmp : X → X → Ordering) : Type 0 where
+  pub same : (x y : X) → cmp x y ≡ Equal → x ≡ y
 
 module _ {X : Type 0} (cmp : X → X → Ordering) where
   abbrev pub by_order : Ordering → List X → List X → List X → List X

@@ -1,4 +1,5 @@
 pub mod Range
 pub mod Image
+pub mod Name
 pub mod State
 pub mod Start

@@ -6,7 +6,9 @@
 mod bytes;
 mod choice;
 mod fault;
+mod name;
 
 pub use bytes::Bytes;
 pub use choice::{Choice, Fill, Fills};
 pub use fault::{BadKind, FaultKind};
+pub use name::Name;

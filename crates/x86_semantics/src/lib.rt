@@ -1,0 +1,4 @@
+// What instructions do to the machine's state.
+// It stands on memory_map and x86_syntax.
+// Its contract: `specs/Does.antt` gives for an instruction, a choice and a state the next state, or why there is none.
+#![tactic(auto)]
