@@ -10,7 +10,7 @@ use Rattle.x86_syntax.specs.Spelling.{spelled, spellings}
 use Rattle.x86_syntax.specs.Decodes.{Decodes, HasSpelling, spelled_front, or_else, decoded_from, decoded}
 use Rattle.x86_syntax.proofs.FormatLemmas.{one_form}
 
-take-split : (k m : ℕ) (xs : List ℕ) → k ≤ m → take m xs ≡ take k xs ++ drop k (take m xs)
+pub take-split : (k m : ℕ) (xs : List ℕ) → k ≤ m → take m xs ≡ take k xs ++ drop k (take m xs)
 take-split zero m xs le = refl
 take-split (suc k) zero xs le = absurd (omega arith)
 take-split (suc k) (suc m) [] le = refl

@@ -18,3 +18,8 @@ matched _ _ = None
 abbrev pub number_then : {A : Type 0} → ℕ → (ℕ → Format A) → Format A
 number_then zero go = go 0
 number_then (suc n) go = Byte (λ low. number_then n (λ high. go (low + 256 * high)))
+
+-- the number that bytes stand for, the least first
+abbrev pub number_of : List ℕ → ℕ
+number_of [] = 0
+number_of (low ∷ bytes) = low + 256 * number_of bytes

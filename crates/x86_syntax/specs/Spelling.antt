@@ -1,5 +1,5 @@
 -- The byte strings of the opcode table.
-use Rattle.std.specs.Prelude.{ℕ, ◌+◌, ◌-◌, ◌&&◌, ◌==◌, Bool, true, false, if◌then◌else◌, nat_le, nat_lt, List, [], ◌∷◌, Option, Some, None, find}
+use Rattle.std.specs.Prelude.{ℕ, ◌-◌, ◌%◌, ◌^◌, ◌&&◌, ◌==◌, Bool, true, false, if◌then◌else◌, nat_le, nat_lt, List, [], ◌∷◌, Option, Some, None, find}
 use Rattle.std.specs.Int.{cast_signed, w8, w32}
 use Rattle.bit_words.specs.declared.width.Width.TheVariants.{B32}
 use Rattle.x86_syntax.specs.declared.instr.Mnemonic.{Mnemonic}
@@ -26,7 +26,7 @@ is_map _ _ = false
 
 -- whether the row has this opcode
 abbrev pub has_code : Map → ℕ → Row → Bool
-has_code map code row = is_map row.map map && nat_le row.first code && nat_lt code (row.first + row.count)
+has_code map code row = is_map row.map map && nat_le row.first code && nat_lt (code - row.first) row.count
 
 -- the row of an opcode
 unfoldable pub row_of : Map → ℕ → Option Row
@@ -46,7 +46,7 @@ size_of_form J32 = 4
 -- the operand that these bytes' number gives: branch offsets are signed
 abbrev pub operands : Form → ℕ → List Operand
 operands Nothing n = []
-operands J8 n = Offset (cast_signed w8 n) ∷ []
+operands J8 n = Offset (cast_signed w8 (n % 2 ^ 8)) ∷ []
 operands J32 n = Offset (cast_signed w32 n) ∷ []
 
 -- the instruction of a row, at an opcode and the number behind it

@@ -8,5 +8,5 @@ mod table;
 mod text;
 
 pub use instr::{Address, Cond, Instr, Mnemonic, Operand, Repeat, Seg};
-pub use table::{Form, Map, Name, ROWS, Row};
+pub use table::{Form, Map, Name, ROWS, Row, find_row};
 pub use text::write_instr;

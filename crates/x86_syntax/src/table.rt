@@ -1,3 +1,6 @@
+ghost use Rattle.std.specs.Prelude.{◌≡◌, find};
+ghost use Rattle.x86_syntax.specs.Spelling.{is_map, has_code, row_of};
+
 use crate::Mnemonic;
 
 /// Where an opcode stands: alone, or behind the byte 0F.
@@ -30,6 +33,41 @@ pub struct Row {
     pub count: u8,
     pub name: Name,
     pub form: Form,
+}
+
+impl Map {
+    fn is(self, other: Map) -> bool
+        ensures { result ≡ is_map self other }
+    {
+        matches!((self, other), (Map::One, Map::One) | (Map::Two, Map::Two))
+    }
+}
+
+impl Row {
+    fn has_code(&self, map: Map, code: u8) -> bool
+        ensures { result ≡ has_code map code self.now }
+    {
+        self.map.is(map) && self.first <= code && code - self.first < self.count
+    }
+}
+
+/// The row of an opcode.
+#[tactic(auto, unfolding(crate::specs::Spelling::row_of))]
+pub fn find_row(map: Map, code: u8) -> Option<Row>
+    ensures { result ≡ row_of map code }
+{
+    find_among(&ROWS, map, code)
+}
+
+fn find_among(rows: &[Row], map: Map, code: u8) -> Option<Row>
+    ensures { result ≡ find (has_code map code) rows.now }
+{
+    for row in rows {
+        if row.has_code(map, code) {
+            return Some(*row);
+        }
+    }
+    None
 }
 
 macro_rules! row {
