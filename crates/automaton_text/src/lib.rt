@@ -1,0 +1,10 @@
+// The control-flow automaton and its text.
+// It stands on flow_log, memory_map, outside_io and x86_decoder.
+// Its contract: `print_automaton` gives exactly the text that `specs/Text.antt` defines.
+#![tactic(auto)]
+
+mod automaton;
+mod print;
+
+pub use automaton::{Automaton, Location, OpenMark};
+pub use print::print_automaton;
