@@ -1,0 +1,48 @@
+ghost use Rattle.std.specs.Prelude.{◌≡◌, Some, None, if◌then◌else◌, IsTrue};
+ghost use Rattle.std.specs.List.{list_all};
+ghost use Rattle.memory_map.specs.Name.{is_name, is_name_byte};
+
+use std::marker::Model;
+
+/// The longest name of an import.
+pub const LONGEST_NAME: usize = 4096;
+
+/// The name of an import: 1 to 4,096 bytes of 21 to 7E, which contracts see as their list.
+#[derive(Drop)]
+pub struct Name {
+    held: Vec<u8>,
+}
+
+impl Model for Name {
+    ghost use Rattle.std.specs.Prelude.{◌≡◌, List, ℕ, true};
+    ghost use Rattle.memory_map.specs.Name.{is_name};
+
+    ghost Value = { List ℕ };
+
+    ghost view = { λ n. n.held.items };
+
+    ghost invariant = { λ n. is_name n.held.items ≡ true };
+}
+
+impl Name {
+    /// The name with these bytes, where they are one; takes no memory.
+    pub fn new(bytes: Vec<u8>) -> Option<Name>
+        ensures { result ≡ (if is_name bytes.items then Some bytes.items else None) }
+    {
+        if is_name(&bytes) { Some(Name { held: bytes }) } else { None }
+    }
+
+    /// Its bytes, in order.
+    pub fn as_slice(&self) -> &[u8]
+        ensures bytes { result.now ≡ self.now }
+        ensures name { IsTrue (is_name self.now) }
+    {
+        self.held.as_slice()
+    }
+}
+
+fn is_name(bytes: &[u8]) -> bool
+    ensures { result ≡ is_name bytes.now }
+{
+    !bytes.is_empty() && bytes.len() <= LONGEST_NAME && bytes.iter().all(|b| (0x21..=0x7E).contains(b))
+}
