@@ -35,8 +35,8 @@ pub code_at-not_here : (r : Range) (rs : List Range) (a : ℕ) → has a r ≡ f
 unfolding code_at
 code_at-not_here r rs a h =
     elim r.execute as (λ b. byte_at (cond b (r ∷ filter (λ (s : Range). s.execute) rs) (filter (λ (s : Range). s.execute) rs)) a ≡ byte_at (filter (λ (s : Range). s.execute) rs) a) [
-      true ↦ byte_at-there r _ a h
-    | false ↦ refl
+      | true ↦ byte_at-there r _ a h
+      | false ↦ refl
     ]
 
 pub code_at-not_code : (r : Range) (rs : List Range) (a : ℕ) → r.execute ≡ false → code_at (r ∷ rs) a ≡ code_at rs a

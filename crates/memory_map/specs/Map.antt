@@ -80,7 +80,3 @@ pub record Allows (ranges : List Range) (a n : ℕ) (perm : Perm) : Type 0 where
 -- the same from one address up to another
 pub record AreAllowed (ranges : List Range) (perm : Perm) (from end : ℕ) : Type 0 where
   pub each : (b : ℕ) → from ≤ b → b < end → is_allowed ranges perm b ≡ true
-
-pub record AllowedUntil (ranges : List Range) (perm : Perm) (from end : ℕ) : Type 0 where
-  pub on : from < end
-  pub each : (b : ℕ) → from ≤ b → b < end → is_allowed ranges perm b ≡ true

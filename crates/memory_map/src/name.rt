@@ -1,4 +1,4 @@
-ghost use Rattle.std.specs.Prelude.{◌≡◌, Some, None, if◌then◌else◌, IsTrue};
+ghost use Rattle.std.specs.Prelude.{◌≡◌, Some, None, if◌then◌else◌, IsTrue, ◌&&◌, length, nat_le};
 ghost use Rattle.std.specs.List.{list_all};
 ghost use Rattle.memory_map.specs.Name.{is_name, is_name_byte};
 
@@ -29,7 +29,11 @@ impl Name {
     pub fn new(bytes: Vec<u8>) -> Option<Name>
         ensures { result ≡ (if is_name bytes.items then Some bytes.items else None) }
     {
-        if is_name(&bytes) { Some(Name { held: bytes }) } else { None }
+        if is_name(&bytes) {
+            Some(Name { held: bytes })
+        } else {
+            None
+        }
     }
 
     /// Its bytes, in order.
@@ -41,8 +45,26 @@ impl Name {
     }
 }
 
+fn is_name_byte(b: u8) -> bool
+    ensures { result ≡ is_name_byte b }
+{
+    0x21 <= b && b <= 0x7E
+}
+
+fn has_name_length(bytes: &[u8]) -> bool
+    ensures { result ≡ (nat_le 1 (length bytes.now) && nat_le (length bytes.now) 4096) }
+{
+    1 <= bytes.len() && bytes.len() <= LONGEST_NAME
+}
+
+fn are_name_bytes(bytes: &[u8]) -> bool
+    ensures { result ≡ list_all is_name_byte bytes.now }
+{
+    bytes.iter().all(|b| is_name_byte(*b))
+}
+
 fn is_name(bytes: &[u8]) -> bool
     ensures { result ≡ is_name bytes.now }
 {
-    !bytes.is_empty() && bytes.len() <= LONGEST_NAME && bytes.iter().all(|b| (0x21..=0x7E).contains(b))
+    has_name_length(bytes) && are_name_bytes(bytes)
 }

@@ -46,7 +46,10 @@ impl Segment {
         requires { self.now.low ≤ a }
         ensures { result ≡ slice_get self.now.bytes (a - self.now.low) }
     {
-        self.bytes.as_slice().get((a - u64::from(self.low)) as usize).copied()
+        self.bytes
+            .as_slice()
+            .get((a - u64::from(self.low)) as usize)
+            .copied()
     }
 
     /// Whether it lies where a program's memory may.

@@ -1,7 +1,7 @@
 ghost use Rattle.std.specs.Prelude.{IfSome, IfNone, ◌≡◌, ◌⊎◌, ◌↔◌, ◌<◌, All, false, map, List, Some, None, MatchResult, IsTrue, nat_lt, option_copied};
 ghost use Rattle.std.specs.List.{list_all};
 ghost use Rattle.memory_map.specs.Range.{byte_at, code_at, run_of, HasBytes};
-ghost use Rattle.memory_map.specs.Map.{is_allowed, AreAllowed, AllowedUntil, range_of, mapped, map_fault, total_size, all_apart, are_apart, is_in_user_space, IsMap, Allows, MAPPED_LIMIT};
+ghost use Rattle.memory_map.specs.Map.{is_allowed, AreAllowed, range_of, mapped, map_fault, total_size, all_apart, are_apart, is_in_user_space, IsMap, Allows, MAPPED_LIMIT};
 
 use crate::{MapFault, Perm, Segment};
 use arrayvec::ArrayVec;
@@ -19,7 +19,7 @@ pub struct Segments {
 
 impl Model for Segments {
     ghost use Rattle.std.specs.Prelude.{List, map};
-    ghost use Rattle.memory_map.specs.Map.{is_allowed, AreAllowed, AllowedUntil, range_of, IsMap};
+    ghost use Rattle.memory_map.specs.Map.{is_allowed, AreAllowed, range_of, IsMap};
     ghost use Rattle.memory_map.specs.declared.segment.Segment.{Segment};
 
     ghost Value = { List Segment };
@@ -96,9 +96,10 @@ fn code_in(list: &[Segment], a: u64) -> Option<u8>
     None
 }
 
-// The first segment that has an address and permits the access.
+// The end of the segment that has an address, where it permits the access.
 fn allowed_until(list: &[Segment], a: u64, perm: Perm) -> Option<u64>
-    ensures found { IfSome result (AllowedUntil (map range_of list.now) perm a) }
+    ensures on { IfSome result (λ end. a < end) }
+    ensures found { IfSome result (AreAllowed (map range_of list.now) perm a) }
     ensures none { IfNone result (is_allowed (map range_of list.now) perm a ≡ false) }
 {
     for s in list {

@@ -17,14 +17,14 @@ returns-then-has c =
 pub loop-first-preserved : goal.loop-first-preserved
 loop-first-preserved c =
     elim c.else-permits.branch [
-      else-permits-via-then-permits+else-has w ↦
-        sym (code_at-not_here (range_of c.in-Some.first.now) (map range_of c.in-Some.rest.now) c.args.a (sym w.has.ensures ∙ w.if-has.false))
-        ∙ ap (λ (l : List Segment). code_at (map range_of l) c.args.a) (sym c.in-Some.ensures.cases.0)
-        ∙ c.loop-first.invariant
-    | else-permits-via-else-permits w ↦
-        sym (code_at-not_code (range_of c.in-Some.first.now) (map range_of c.in-Some.rest.now) c.args.a (sym c.permits.ensures ∙ w.if-permits.false))
-        ∙ ap (λ (l : List Segment). code_at (map range_of l) c.args.a) (sym c.in-Some.ensures.cases.0)
-        ∙ c.loop-first.invariant
+      | else-permits-via-then-permits+else-has w ↦
+          sym (code_at-not_here (range_of c.in-Some.first.now) (map range_of c.in-Some.rest.now) c.args.a (sym w.has.ensures ∙ w.if-has.false))
+          ∙ ap (λ (l : List Segment). code_at (map range_of l) c.args.a) (sym c.in-Some.ensures.cases.0)
+          ∙ c.loop-first.invariant
+      | else-permits-via-else-permits w ↦
+          sym (code_at-not_code (range_of c.in-Some.first.now) (map range_of c.in-Some.rest.now) c.args.a (sym c.permits.ensures ∙ w.if-permits.false))
+          ∙ ap (λ (l : List Segment). code_at (map range_of l) c.args.a) (sym c.in-Some.ensures.cases.0)
+          ∙ c.loop-first.invariant
     ]
 
 pub returns : goal.returns

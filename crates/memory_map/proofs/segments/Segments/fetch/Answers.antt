@@ -19,11 +19,13 @@ loop-i-preserved c =
     let here : look (c.args.a + c.loop-i.i) ≡ Some c.in-Some.b = cc in
     let left : 15 - c.loop-i.i ≡ (15 - (c.loop-i.i + 1)) + 1 = omega arith in
     let next : c.args.a + c.loop-i.i + 1 ≡ c.args.a + (c.loop-i.i + 1) = omega arith in
-    let goes = run_of-goes look (15 - c.loop-i.i) (15 - (c.loop-i.i + 1)) (c.args.a + c.loop-i.i) c.in-Some.b left here in
-    (omega (arith, c.push.ensures.len), c.loop-i.invariant.1
-    ∙ ap (λ (xs : List ℕ). c.loop-i.bytes.items ++ xs) (goes ∙ ap (λ a. c.in-Some.b ∷ run_of look (15 - (c.loop-i.i + 1)) a) next)
-    ∙ sym (append_assoc c.loop-i.bytes.items (c.in-Some.b ∷ []) (run_of look (15 - (c.loop-i.i + 1)) (c.args.a + (c.loop-i.i + 1))))
-    ∙ ap (λ (xs : List ℕ). xs ++ run_of look (15 - (c.loop-i.i + 1)) (c.args.a + (c.loop-i.i + 1))) (sym c.push.ensures.items))
+    let goes = run_of-goes look (15 - c.loop-i.i) (15 - (c.loop-i.i + 1)) (c.args.a + c.loop-i.i) c.in-Some.b left here in (
+      omega (arith, c.push.ensures.len),
+      c.loop-i.invariant.1
+          ∙ ap (λ (xs : List ℕ). c.loop-i.bytes.items ++ xs) (goes ∙ ap (λ a. c.in-Some.b ∷ run_of look (15 - (c.loop-i.i + 1)) a) next)
+          ∙ sym (append_assoc c.loop-i.bytes.items (c.in-Some.b ∷ []) (run_of look (15 - (c.loop-i.i + 1)) (c.args.a + (c.loop-i.i + 1))))
+          ∙ ap (λ (xs : List ℕ). xs ++ run_of look (15 - (c.loop-i.i + 1)) (c.args.a + (c.loop-i.i + 1))) (sym c.push.ensures.items),
+    )
 
 pub returns : goal.returns
 returns c =
