@@ -1,11 +1,10 @@
 -- The names of imports.
-use Rattle.std.specs.Prelude.{ℕ, ◌<◌, ◌≤◌, List, length, All}
+use Rattle.std.specs.Prelude.{ℕ, Bool, List, ◌&&◌, length, nat_le}
+use Rattle.std.specs.List.{list_all}
 
-abbrev pub IsNameByte : ℕ → Type 0
-IsNameByte b = (0x21 ≤ b) × (b ≤ 0x7E)
+-- a printable ASCII byte other than the blank
+abbrev pub is_name_byte : ℕ → Bool
+is_name_byte b = nat_le 0x21 b && nat_le b 0x7E
 
--- 1 to 4,096 bytes of 21 to 7E
-pub record IsName (bytes : List ℕ) : Type 0 where
-  pub some : 0 < length bytes
-  pub most : length bytes ≤ 4096
-  pub each : All IsNameByte bytes
+abbrev pub is_name : List ℕ → Bool
+is_name bytes = nat_le 1 (length bytes) && nat_le (length bytes) 4096 && list_all is_name_byte bytes

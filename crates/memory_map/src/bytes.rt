@@ -1,4 +1,4 @@
-ghost use Rattle.std.specs.Prelude.{◌≡◌, ◌↔◌, length, IsTrue};
+ghost use Rattle.std.specs.Prelude.{◌≡◌, ◌↔◌, ◌<◌, ◌^◌, length, IsTrue, All};
 
 use std::marker::Model;
 
@@ -9,11 +9,13 @@ pub struct Bytes {
 }
 
 impl Model for Bytes {
-    ghost use Rattle.std.specs.Prelude.{List, ℕ};
+    ghost use Rattle.std.specs.Prelude.{List, ℕ, ◌<◌, All};
 
     ghost Value = { List ℕ };
 
     ghost view = { λ b. b.held.items };
+
+    ghost invariant = { λ b. All (λ n. n < 256) b.held.items };
 }
 
 impl Bytes {
@@ -33,16 +35,19 @@ impl Bytes {
 
     /// The bytes, in order.
     pub fn as_slice(&self) -> &[u8]
-        ensures { result.now ≡ self.now }
+        ensures bytes { result.now ≡ self.now }
+        ensures range { All (λ b. b < 256) self.now }
     {
         self.held.as_slice()
     }
 
     /// How many bytes there are.
     pub fn len(&self) -> usize
-        ensures { result ≡ length self.now }
+        ensures length { result ≡ length self.now }
+        ensures small { result < 2 ^ 63 }
+        ensures range { All (λ b. b < 256) self.now }
     {
-        self.held.len()
+        self.as_slice().len()
     }
 
     /// Whether there is none.

@@ -31,3 +31,15 @@ pub enum BadKind {
     /// A byte that the step does not leave free.
     Fill,
 }
+
+/// Why segments cannot be mapped together.
+#[derive(Clone, Copy, Debug, PartialEq, Eq)]
+pub enum MapFault {
+    /// A segment leaves the addresses where a program's memory may lie.
+    OutOfRange,
+    /// Two segments share a byte.
+    Overlap,
+    /// They have more bytes than an image may map.
+    TooLarge,
+    Memory,
+}

@@ -6,9 +6,17 @@
 mod bytes;
 mod choice;
 mod fault;
+mod file_bytes;
 mod name;
+mod perm;
+mod segment;
+mod segments;
 
 pub use bytes::Bytes;
 pub use choice::{Choice, Fill, Fills};
-pub use fault::{BadKind, FaultKind};
-pub use name::Name;
+pub use fault::{BadKind, FaultKind, MapFault};
+pub use file_bytes::{half_at, word_at};
+pub use name::{LONGEST_NAME, Name};
+pub use perm::Perm;
+pub use segment::{Segment, USER_END, USER_LOW};
+pub use segments::{MAPPED_BYTES, Segments};

@@ -1,36 +1,51 @@
-ghost use Rattle.std.specs.Prelude.{◌≡◌, Some, nat_eq, refl};
+ghost use Rattle.std.specs.Prelude.{◌≡◌, Some, None, if◌then◌else◌, IsTrue, ◌&&◌, length, nat_eq, nat_le, refl};
 ghost use Rattle.std.specs.Cmp.{nat_cmp_total, nat_eq_equiv, partial_equiv_from_equiv, unsigned_po, unsigned_ties};
 ghost use Rattle.std.specs.Cmp.Lexicographic.{lists_agrees, lists_equiv, lists_per, lists_po, lists_ties, lists_total, pointwise, slice_cmp, slice_partial_cmp};
 ghost use Rattle.std.specs.Ordering.{nat_cmp};
-ghost use Rattle.memory_map.specs.Name.{IsName};
+ghost use Rattle.std.specs.List.{list_all};
+ghost use Rattle.memory_map.specs.Name.{is_name, is_name_byte};
 
 use std::cmp::Ordering;
 use std::marker::Model;
 
+/// The longest name of an import.
+pub const LONGEST_NAME: usize = 4096;
+
 /// The name of an import: 1 to 4,096 bytes of 21 to 7E, which contracts see as their list.
 #[derive(Drop)]
 pub struct Name {
-    bytes: Vec<u8>,
+    held: Vec<u8>,
 }
 
 impl Model for Name {
-    ghost use Rattle.std.specs.Prelude.{List, ℕ};
-    ghost use Rattle.memory_map.specs.Name.{IsName};
+    ghost use Rattle.std.specs.Prelude.{◌≡◌, List, ℕ, true};
+    ghost use Rattle.memory_map.specs.Name.{is_name};
 
     ghost Value = { List ℕ };
 
-    ghost view = { λ n. n.bytes.items };
+    ghost view = { λ n. n.held.items };
 
-    ghost invariant = { λ n. IsName n.bytes.items };
+    ghost invariant = { λ n. is_name n.held.items ≡ true };
 }
 
 impl Name {
-    /// The bytes, in order.
+    /// The name with these bytes, where they are one; takes no memory.
+    pub fn new(bytes: Vec<u8>) -> Option<Name>
+        ensures { result ≡ (if is_name bytes.items then Some bytes.items else None) }
+    {
+        if is_name(&bytes) {
+            Some(Name { held: bytes })
+        } else {
+            None
+        }
+    }
+
+    /// Its bytes, in order.
     pub fn as_slice(&self) -> &[u8]
         ensures bytes { result.now ≡ self.now }
-        ensures name { IsName self.now }
+        ensures name { IsTrue (is_name self.now) }
     {
-        self.bytes.as_slice()
+        self.held.as_slice()
     }
 }
 
@@ -40,7 +55,7 @@ impl PartialEq for Name {
     ghost laws = { lists_per (partial_equiv_from_equiv nat_eq_equiv) };
 
     fn eq(&self, other: &Name) -> bool {
-        self.bytes.as_slice() == other.bytes.as_slice()
+        self.held.as_slice() == other.held.as_slice()
     }
 }
 
@@ -54,7 +69,7 @@ impl PartialOrd for Name {
     ghost laws = { lists_po unsigned_po };
 
     fn partial_cmp(&self, other: &Name) -> Option<Ordering> {
-        self.bytes.as_slice().partial_cmp(&other.bytes.as_slice())
+        self.held.as_slice().partial_cmp(&other.held.as_slice())
     }
 }
 
@@ -68,6 +83,30 @@ impl Ord for Name {
     ghost matches_eq = { lists_ties nat_cmp unsigned_ties };
 
     fn cmp(&self, other: &Name) -> Ordering {
-        self.bytes.as_slice().cmp(&other.bytes.as_slice())
+        self.held.as_slice().cmp(&other.held.as_slice())
     }
+}
+
+fn is_name_byte(b: u8) -> bool
+    ensures { result ≡ is_name_byte b }
+{
+    0x21 <= b && b <= 0x7E
+}
+
+fn has_name_length(bytes: &[u8]) -> bool
+    ensures { result ≡ (nat_le 1 (length bytes.now) && nat_le (length bytes.now) 4096) }
+{
+    1 <= bytes.len() && bytes.len() <= LONGEST_NAME
+}
+
+fn are_name_bytes(bytes: &[u8]) -> bool
+    ensures { result ≡ list_all is_name_byte bytes.now }
+{
+    bytes.iter().all(|b| is_name_byte(*b))
+}
+
+fn is_name(bytes: &[u8]) -> bool
+    ensures { result ≡ is_name bytes.now }
+{
+    has_name_length(bytes) && are_name_bytes(bytes)
 }

@@ -1,0 +1,34 @@
+use Rattle.std.proofs.Common.{◌≡◌, ◌+◌, ◌-◌, ◌<◌, ◌++◌, ◌∷◌, [], ap, sym, ◌∙◌, arith, List, ℕ, Some, None, map, length, subst, Option}
+use Rattle.std.proofs.lemmas.List.{append-nil, append_assoc}
+use Rattle.memory_map.specs.Range.{code_at, run_of}
+use Rattle.memory_map.specs.Map.{range_of}
+use Rattle.memory_map.specs.declared.segment.Segment.{Segment}
+use Rattle.memory_map.proofs.Lists.{run_of-stops, run_of-goes, run_of-none}
+use Rattle.memory_map.proofs.segments.Segments.fetch.Goals as goal
+
+pub returns-in-None : goal.returns-in-None
+returns-in-None c =
+    let look = code_at (map range_of c.args.self.now) in
+    let here : look (c.args.a + c.loop-i.i) ≡ None = cc in
+    let none = run_of-stops look (15 - c.loop-i.i) (c.args.a + c.loop-i.i) here in
+    sym (c.loop-i.invariant.1 ∙ ap (λ (xs : List ℕ). c.loop-i.bytes.items ++ xs) none ∙ append-nil c.loop-i.bytes.items)
+
+pub loop-i-preserved : goal.loop-i-preserved
+loop-i-preserved c =
+    let look = code_at (map range_of c.args.self.now) in
+    let here : look (c.args.a + c.loop-i.i) ≡ Some c.in-Some.b = cc in
+    let left : 15 - c.loop-i.i ≡ (15 - (c.loop-i.i + 1)) + 1 = omega arith in
+    let next : c.args.a + c.loop-i.i + 1 ≡ c.args.a + (c.loop-i.i + 1) = omega arith in
+    let goes = run_of-goes look (15 - c.loop-i.i) (15 - (c.loop-i.i + 1)) (c.args.a + c.loop-i.i) c.in-Some.b left here in (
+      omega (arith, c.push.ensures.len),
+      c.loop-i.invariant.1
+          ∙ ap (λ (xs : List ℕ). c.loop-i.bytes.items ++ xs) (goes ∙ ap (λ a. c.in-Some.b ∷ run_of look (15 - (c.loop-i.i + 1)) a) next)
+          ∙ sym (append_assoc c.loop-i.bytes.items (c.in-Some.b ∷ []) (run_of look (15 - (c.loop-i.i + 1)) (c.args.a + (c.loop-i.i + 1))))
+          ∙ ap (λ (xs : List ℕ). xs ++ run_of look (15 - (c.loop-i.i + 1)) (c.args.a + (c.loop-i.i + 1))) (sym c.push.ensures.items),
+    )
+
+pub returns : goal.returns
+returns c =
+    let look = code_at (map range_of c.args.self.now) in
+    let none = run_of-none look (15 - c.loop-i.i) (c.args.a + c.loop-i.i) (omega arith) in
+    sym (c.loop-i.invariant.1 ∙ ap (λ (xs : List ℕ). c.loop-i.bytes.items ++ xs) none ∙ append-nil c.loop-i.bytes.items)
