@@ -1,14 +1,11 @@
 -- An image as it is loaded: what every file format's reader comes to.
-use Rattle.std.specs.Prelude.{ℕ, ◌+◌, ◌-◌, ◌/◌, ◌%◌, ◌^◌, ◌<◌, ◌≤◌, Bool, List, Option, None, nat_le, slice_get, All, AllPairs, if◌then◌else◌, ◌==◌}
+use Rattle.std.specs.Prelude.{ℕ, ◌+◌, ◌-◌, ◌/◌, ◌%◌, ◌^◌, ◌<◌, ◌≤◌, Bool, List, Option, None, nat_le, slice_get, All, AllPairs, if◌then◌else◌, ◌==◌, ◌&&◌, nat_lt}
+use Rattle.memory_map.specs.declared.span.Span.{Span}
 use Rattle.memory_map.specs.Range.{Range, USER_END, IsInUserSpace, AreApart, HasBytes}
 
--- addresses from `low` on
-pub record Span : Type 0 where
-  pub low : ℕ
-  pub size : ℕ
-
-abbrev pub IsInSpan : ℕ → Span → Type 0
-IsInSpan a s = (s.low ≤ a) × (a < s.low + s.size)
+-- whether an address is one of a span
+abbrev pub is_in_span : ℕ → Span → Bool
+is_in_span a s = nat_le s.low a && nat_lt a (s.low + s.size)
 
 pub record Image : Type 0 where
   pub segments : List Range

@@ -1,8 +1,9 @@
 -- The states from which a run of an image may start.
-use Rattle.std.specs.Prelude.{ℕ, ◌≡◌, ◌+◌, ◌*◌, ◌%◌, ◌⊎◌, true, false, List, [], ◌∷◌, ◌++◌, length, slice_get, All, AllPairs, Any, Some}
-use Rattle.std.specs.List.{AllZip}
+use Rattle.std.specs.Prelude.{ℕ, ◌≡◌, ◌+◌, ◌*◌, ◌%◌, ◌⊎◌, true, false, List, [], ◌∷◌, ◌++◌, length, slice_get, All, AllPairs, IsTrue, Some}
+use Rattle.std.specs.List.{AllZip, list_any}
 use Rattle.memory_map.specs.Range.{Range, byte_at, AreApart, IsInUserSpace, HasBytes}
-use Rattle.memory_map.specs.Image.{Image, Span, IsInSpan, EXIT_PLACE}
+use Rattle.memory_map.specs.declared.span.Span.{Span}
+use Rattle.memory_map.specs.Image.{Image, is_in_span, EXIT_PLACE}
 use Rattle.memory_map.specs.State.{MachineState, memory, HasWords}
 
 -- the stack window reaches this far below the stack pointer, and this far above it
@@ -29,7 +30,7 @@ pub record HoldsLoaded (unset : List Span) (segment held : Range) : Type 0 where
   pub size : length held.bytes ≡ length segment.bytes
   pub write : held.write ≡ segment.write
   pub execute : held.execute ≡ segment.execute
-  pub bytes : (i : ℕ) → Any (IsInSpan (segment.low + i)) unset ⊎ (slice_get held.bytes i ≡ slice_get segment.bytes i)
+  pub bytes : (i : ℕ) → IsTrue (list_any (is_in_span (segment.low + i)) unset) ⊎ (slice_get held.bytes i ≡ slice_get segment.bytes i)
 
 -- the segments lie as loaded, and beside them only the three windows are mapped
 pub record MapsExactly (image : Image) (m : MachineState) : Type 0 where

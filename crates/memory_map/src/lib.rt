@@ -11,6 +11,7 @@ mod name;
 mod perm;
 mod segment;
 mod segments;
+mod span;
 
 pub use bytes::Bytes;
 pub use choice::{Choice, Fill, Fills};
@@ -20,3 +21,4 @@ pub use name::{LONGEST_NAME, Name};
 pub use perm::Perm;
 pub use segment::{Segment, USER_END, USER_LOW};
 pub use segments::{MAPPED_BYTES, Segments};
+pub use span::Span;

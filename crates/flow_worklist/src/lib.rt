@@ -1,0 +1,4 @@
+// The exploration: rows expanded one after another into a log, and the automaton of a log.
+// It stands on image_loader, x86_decoder, x86_machine, automaton_text and flow_log.
+// Its contract: `explore` gives exactly the log that is defined, and `automaton_of` exactly its automaton.
+#![tactic(auto)]

@@ -1,0 +1,2 @@
+pub mod StepBy
+pub mod Machine

@@ -1,0 +1,54 @@
+-- One step of the machine under a choice. It knows nothing of any analysis.
+use Rattle.std.specs.Prelude.{ℕ, ◌≡◌, ◌⊎◌, List, Option, None, Some, Result, Ok, Err, MatchBool, ◌==◌}
+use Rattle.memory_map.specs.declared.choice.Choice.{Choice}
+use Rattle.memory_map.specs.declared.fault.FaultKind.{FaultKind}
+use Rattle.memory_map.specs.declared.fault.FaultKind.TheVariants.{Fetch}
+use Rattle.memory_map.specs.declared.fault.BadKind.{BadKind}
+use Rattle.memory_map.specs.Range.{code_at, run_of}
+use Rattle.memory_map.specs.Image.{Image, EXIT_PLACE, name_at}
+use Rattle.memory_map.specs.State.{MachineState, memory}
+use Rattle.x86_syntax.specs.declared.instr.Instr.{Instr}
+use Rattle.x86_syntax.specs.Decodes.{decoded}
+use Rattle.x86_decoder.specs.Refusals.{GoesOn}
+use Rattle.x86_semantics.specs.Does.{does}
+
+-- what comes of a step
+pub data Outcome : Type 0 where
+  stepped : MachineState → Outcome
+  faulted : FaultKind → Outcome
+  -- the bytes at EIP are no instruction of the opcode table
+  not_listed : Outcome
+  -- an import without a stub
+  no_stub : Outcome
+  exited : Outcome
+  -- the choice names what the step does not leave open
+  bad_choice : BadKind → Outcome
+
+-- the longest instruction (manual, volume 2, section 2.3.11)
+abbrev pub LONGEST : ℕ
+LONGEST = 15
+
+-- the executable bytes at EIP, one after another, as many as an instruction may have
+unfoldable pub fetched : MachineState → List ℕ
+fetched m = run_of (code_at (memory m)) LONGEST m.eip
+
+abbrev pub outcome_of : Result MachineState FaultKind → Outcome
+outcome_of (Ok next) = stepped next
+outcome_of (Err kind) = faulted kind
+
+-- where no instruction stands at EIP: the bytes end before one does, or none is listed that they begin
+abbrev pub NoInstr : List ℕ → Outcome → Type 0
+NoInstr bytes outcome = (GoesOn bytes × (outcome ≡ faulted Fetch)) ⊎ ((GoesOn bytes → ⊥) × (outcome ≡ not_listed))
+
+abbrev pub AtInstr : Option (Instr × ℕ) → Choice → MachineState → List ℕ → Outcome → Type 0
+AtInstr (Some p) choice m bytes outcome = outcome ≡ outcome_of (does p.0 p.1 choice m)
+AtInstr None choice m bytes outcome = NoInstr bytes outcome
+
+-- at the place of an import; no stub says yet what one does
+abbrev pub AtName : Option (List ℕ) → Choice → MachineState → Outcome → Type 0
+AtName (Some name) choice m outcome = outcome ≡ no_stub
+AtName None choice m outcome = AtInstr (decoded (fetched m)) choice m (fetched m) outcome
+
+-- the outcome of a step from m under a choice
+unfoldable pub StepBy : Image → Choice → MachineState → Outcome → Type 0
+StepBy image choice m outcome = MatchBool (m.eip == EXIT_PLACE) (outcome ≡ exited) (AtName (name_at image m.eip) choice m outcome)

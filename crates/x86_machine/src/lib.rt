@@ -1,0 +1,4 @@
+// The machine that runs an image: one step, and the edge that a step is.
+// It stands on memory_map, x86_decoder, x86_semantics and flow_log.
+// Its contract: `specs/StepBy.antt` gives each outcome of a step under a choice, and `specs/Machine.antt` the machine of an image.
+#![tactic(auto)]
