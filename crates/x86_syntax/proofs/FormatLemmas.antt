@@ -1,5 +1,5 @@
 -- Laws of sets of byte strings that are read from the front.
-use Rattle.std.proofs.Common.{◌≡◌, ℕ, suc, zero, ◌+◌, ◌≤◌, ◌<◌, List, [], ◌∷◌, ◌++◌, length, take, refl, sym, arith, ◌*◌, Option, Some, None}
+use Rattle.std.proofs.Common.{◌≡◌, ℕ, suc, zero, ◌+◌, ◌≤◌, List, [], ◌∷◌, ◌++◌, length, take, refl, sym, arith, ◌*◌, Some, None}
 use Rattle.x86_syntax.specs.Formats.{Format, Whole, Never, Byte, matched, number_then, number_of}
 
 -- what is left of the set once these bytes stand in front

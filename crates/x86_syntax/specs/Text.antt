@@ -1,5 +1,5 @@
 -- The text of an instruction.
-use Rattle.std.specs.Prelude.{ℕ, suc, zero, ◌+◌, ◌-◌, ◌*◌, ◌/◌, ◌%◌, ◌^◌, nat_lt, if◌then◌else◌, List, [], ◌∷◌, ◌++◌, slice_index_or, codes}
+use Rattle.std.specs.Prelude.{ℕ, suc, zero, ◌+◌, ◌/◌, ◌%◌, ◌^◌, nat_lt, if◌then◌else◌, List, [], ◌∷◌, ◌++◌, slice_index_or, codes}
 use Rattle.std.specs.List.{flat_map}
 use Rattle.std.specs.Int.{cast_unsigned, w32}
 use Rattle.x86_syntax.specs.declared.instr.Cond.{Cond}

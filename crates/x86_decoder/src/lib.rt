@@ -1,0 +1,12 @@
+// The decoder: the instruction at the front of a string of bytes.
+// It stands on x86_syntax.
+// Its contract: `decode` answers exactly the spelling at the front, or why there is none.
+#![tactic(auto)]
+
+mod decoder;
+mod fault;
+#[cfg(test)]
+mod tests;
+
+pub use decoder::decode;
+pub use fault::DecodeFault;
