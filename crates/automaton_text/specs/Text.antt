@@ -1,9 +1,10 @@
 -- The text of an automaton, version 1: lines of ASCII, each ended by one byte 0A.
-use Rattle.std.specs.Prelude.{ℕ, List, [], ◌∷◌, ◌++◌, length, Option, None, Some, codes, decimal, flat_map, if◌then◌else◌, ◌==◌, All, ◌≡◌}
+use Rattle.std.specs.Prelude.{ℕ, List, [], ◌∷◌, ◌++◌, length, Option, None, Some, codes, decimal, flat_map, if◌then◌else◌, ◌==◌, All}
 use Rattle.memory_map.specs.Image.{EXIT_PLACE}
 use Rattle.outside_io.specs.Hex.{hex8, hex_text}
 use Rattle.x86_syntax.specs.Spelling.{spelled}
 use Rattle.x86_syntax.specs.Text.{instr_text}
+use Rattle.x86_decoder.specs.Refusals.{IsSpelling}
 use Rattle.x86_syntax.specs.declared.instr.Instr.{Instr}
 use Rattle.flow_log.specs.declared.cause.Cause.{Cause}
 use Rattle.flow_log.specs.declared.cause.Cause.TheVariants as causes
@@ -80,7 +81,7 @@ text_of a =
 
 -- the bytes of a code label are a spelling
 abbrev pub IsSpelled : Label → Type 0
-IsSpelled (Code bytes) = (i : Instr) × (spelled bytes.items ≡ Some i)
+IsSpelled (Code bytes) = IsSpelling bytes.items
 IsSpelled (Import name) = Unit {0}
 
 -- the bytes of each code label are

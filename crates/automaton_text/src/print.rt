@@ -1,14 +1,14 @@
-ghost use Rattle.std.specs.Prelude.{◌≡◌, ◌++◌, IfOk, OnOk, flat_map};
+ghost use Rattle.std.specs.Prelude.{◌≡◌, ◌≤◌, ◌++◌, length, IfOk, OnOk, flat_map};
 ghost use Rattle.automaton_text.specs.Text.{AreSpelled, IsSpelled, cause_text, code_text, edge_line, end_line, entry_line, header_line, label_text, loc_line, open_line, suffix_of, text_of};
-ghost use Rattle.x86_syntax.specs.Spelling.{spelled};
+ghost use Rattle.x86_decoder.specs.Refusals.{IsSpelling};
 
 use crate::{Automaton, Location, OpenMark};
 use bit_words::NoMemory;
 use flow_log::{Cause, Edge, Label};
 use outside_io::{push_bytes, push_decimal, push_hex_bytes, push_hex8};
 use std::alloc::Global;
-// use x86_decoder::decode;
-// use x86_syntax::write_instr;
+use x86_decoder::decode;
+use x86_syntax::write_instr;
 
 /// The address at which a run has exited.
 const EXIT_PLACE: u32 = 0xF000_0000;
@@ -163,8 +163,14 @@ fn push_end(out: &mut Vec<u8>, locations: usize, edges: usize, marks: usize) -> 
     push_bytes(out, b"\n")
 }
 
+// The text of the instruction that these bytes spell.
 fn push_code(out: &mut Vec<u8>, from: u32, bytes: &[u8]) -> Result<(), NoMemory>
+    requires spelled { IsSpelling bytes.now }
+    requires short { length bytes.now ≤ 15 }
     ensures { OnOk result (out.new.items ≡ out.old.items ++ code_text from bytes.now) }
 {
-    push_bytes(out, bytes)
+    match decode(bytes) {
+        Ok((i, len)) => push_bytes(out, write_instr(from, &i, len).as_bytes()),
+        Err(_) => unreachable!(),
+    }
 }
