@@ -88,9 +88,9 @@ starts segment entry esp fs gs inside bytes small room =
       bytes = All-cons HasBytes stack (segment ∷ windows) (blank-bytes (STACK_BELOW + STACK_ABOVE)) (All-cons HasBytes segment windows bytes (All-cons HasBytes fs_window (gs_window ∷ []) (blank-bytes (BASE_REACH + BASE_REACH)) (All-cons HasBytes gs_window [] (blank-bytes (BASE_REACH + BASE_REACH)) (All-nil HasBytes))));
       inside = All-cons IsInUserSpace stack (segment ∷ windows) (record { above = omega arith; below = omega arith }) (All-cons IsInUserSpace segment windows inside (All-cons IsInUserSpace fs_window (gs_window ∷ []) (record { above = omega arith; below = omega arith }) (All-cons IsInUserSpace gs_window [] (record { above = omega arith; below = omega arith }) (All-nil IsInUserSpace))));
       apart = pairs-cons stack (segment ∷ windows) (All-cons (AreApart stack) segment windows from_stack (All-cons (AreApart stack) fs_window (gs_window ∷ []) (inr (omega arith)) (All-cons (AreApart stack) gs_window [] (inr (omega arith)) (All-nil (AreApart stack)))))
-        (pairs-cons segment windows (All-cons (AreApart segment) fs_window (gs_window ∷ []) from_fs (All-cons (AreApart segment) gs_window [] from_gs (All-nil (AreApart segment))))
-        (pairs-cons fs_window (gs_window ∷ []) (All-cons (AreApart fs_window) gs_window [] (inl (omega arith)) (All-nil (AreApart fs_window)))
-        (pairs-cons gs_window [] (All-nil (AreApart gs_window)) (λ i j d lt in'. absurd (omega (arith, in'))))));
+          (pairs-cons segment windows (All-cons (AreApart segment) fs_window (gs_window ∷ []) from_fs (All-cons (AreApart segment) gs_window [] from_gs (All-nil (AreApart segment))))
+          (pairs-cons fs_window (gs_window ∷ []) (All-cons (AreApart fs_window) gs_window [] (inl (omega arith)) (All-nil (AreApart fs_window)))
+          (pairs-cons gs_window [] (All-nil (AreApart gs_window)) (λ i j d lt in'. absurd (omega (arith, in'))))));
       exit = λ e. cc;
     }
 

@@ -6,10 +6,12 @@ use memory_map::{MAPPED_BYTES, USER_END, USER_LOW, half_at, word_at};
 
 // The sizes of the file header and of a program header.
 pub const FILE_HEADER_SIZE: usize = 52;
+
 const PROGRAM_HEADER_SIZE: usize = 32;
 
 // PT_LOAD; PF_R and PF_X.
 const LOAD: u32 = 1;
+
 const READ_EXECUTE: u32 = 5;
 
 // Whether a file begins with the four magic bytes.

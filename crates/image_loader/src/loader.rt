@@ -60,7 +60,11 @@ pub fn load(alloc: Global, bytes: &[u8]) -> Result<Image, LoadFault>
     ensures refused { IfErr result (λ fault. Refuses fault bytes.now) }
 {
     if !has_elf_magic(bytes) {
-        return Err(if has_mz_magic(bytes) { LoadFault::NotBuilt } else { LoadFault::Unknown });
+        return Err(if has_mz_magic(bytes) {
+            LoadFault::NotBuilt
+        } else {
+            LoadFault::Unknown
+        });
     }
     if bytes.len() < FILE_HEADER_SIZE {
         return Err(LoadFault::Short);
