@@ -1,13 +1,14 @@
 -- What the tests of `map_fault` say.
-use Rattle.std.proofs.Common.{ℕ, ◌≡◌, ◌+◌, ◌<◌, ◌≤◌, ◌⊎◌, inl, inr, ⊎_elim, Bool, true, false, List, [], ◌∷◌, length, get_or, Option, Some, None, refl, ap, sym, ◌∙◌, arith, rules, cond, zero, suc}
+use Rattle.std.proofs.Common.{ℕ, ◌≡◌, ◌+◌, ◌<◌, ◌≤◌, ◌⊎◌, inl, inr, ⊎_elim, Bool, true, false, List, [], ◌∷◌, length, get_or, Option, Some, None, refl, ap, sym, ◌∙◌, arith, rules, subst, map, zero, suc}
 use Rattle.std.specs.Prelude.{◌&&◌, ◌||◌, not, nat_le, nat_lt, All, AllPairs, if◌then◌else◌}
 use Rattle.std.specs.List.{list_all}
 use Rattle.std.proofs.lemmas.Bool.{leb-true, ltb-false, or_cases}
 use Rattle.std.proofs.lemmas.List.Elements.{All-nil, All-cons}
 use Rattle.memory_map.specs.Range.{Range, USER_LOW, USER_END, end_of, IsInUserSpace, AreApart, HasBytes}
-use Rattle.memory_map.specs.Map.{all_apart, are_apart, is_in_user_space, total_size, map_fault, IsMap, MAPPED_LIMIT}
+use Rattle.memory_map.specs.Map.{range_of, all_apart, are_apart, is_in_user_space, total_size, map_fault, IsMap, MAPPED_LIMIT}
+use Rattle.memory_map.specs.declared.segment.Segment.{Segment}
 use Rattle.memory_map.specs.declared.fault.MapFault.TheVariants.{OutOfRange, Overlap, TooLarge}
-use Rattle.memory_map.proofs.Lists.{all_apart-cons}
+use Rattle.memory_map.proofs.Lists.{all_apart-cons, list_all-map}
 
 pub map_fault-outside : (rs : List Range) → list_all is_in_user_space rs ≡ false → map_fault rs ≡ Some OutOfRange
 unfolding map_fault
@@ -64,3 +65,13 @@ is_map rs inside apart size bytes = record {
   bytes = bytes;
   size = ltb-false MAPPED_LIMIT (total_size rs) size;
 }
+
+-- what the three tests of `Segments::new` come to, each over the list by another name
+pub tests_pass : (items d e f : List Segment) (b c t : Bool) → d ≡ items → e ≡ items → f ≡ items → b ≡ list_all (λ s. is_in_user_space (range_of s)) d → c ≡ all_apart (map range_of e) → t ≡ nat_lt MAPPED_LIMIT (total_size (map range_of f)) → (t ≡ false → All HasBytes (map range_of f)) → b ≡ true → c ≡ true → t ≡ false → IsMap (map range_of items)
+tests_pass items d e f b c t same same' same'' inside apart size bytes h h' h'' =
+    let P : List Segment → Type 0 = λ l. All HasBytes (map range_of l) in
+    is_map (map range_of items)
+    (ap (λ (l : List Segment). list_all is_in_user_space (map range_of l)) (sym same) ∙ list_all-map is_in_user_space range_of d ∙ sym inside ∙ h)
+    (ap (λ (l : List Segment). all_apart (map range_of l)) (sym same') ∙ sym apart ∙ h')
+    (ap (λ (l : List Segment). nat_lt MAPPED_LIMIT (total_size (map range_of l))) (sym same'') ∙ sym size ∙ h'')
+    (subst P same'' (bytes h''))

@@ -1,4 +1,4 @@
-ghost use Rattle.std.specs.Prelude.{◌≡◌, ⊤, [], ◌∷◌, codes};
+ghost use Rattle.std.specs.Prelude.{◌≡◌, ◌+◌, ⊤, [], ◌∷◌, codes, if◌then◌else◌};
 
 use bitflags::{Flag, Flags, bitflag_items};
 
@@ -33,5 +33,19 @@ impl Flags for Perm {
 
     fn from_bits_retain(bits: u8) -> Perm {
         Perm(bits)
+    }
+}
+
+impl Perm {
+    /// The rights of bytes that may be read, and perhaps written and executed.
+    pub fn new(write: bool, execute: bool) -> Perm
+        ensures { result.0 ≡ 1 + (if write then 2 else 0) + (if execute then 4 else 0) }
+    {
+        match (write, execute) {
+            (false, false) => Perm::READ,
+            (true, false) => Perm(3),
+            (false, true) => Perm(5),
+            (true, true) => Perm(7),
+        }
     }
 }

@@ -1,4 +1,4 @@
-ghost use Rattle.std.specs.Prelude.{IfSome, IfNone, ◌≡◌, ◌⊎◌, ◌↔◌, ◌<◌, All, false, map, List, Some, None, MatchResult, IsTrue, nat_lt, option_copied};
+ghost use Rattle.std.specs.Prelude.{IfSome, IfNone, IfOk, ◌≡◌, ◌⊎◌, ◌↔◌, ◌<◌, All, false, map, List, Some, None, MatchResult, IsTrue, nat_lt, option_copied};
 ghost use Rattle.std.specs.List.{list_all};
 ghost use Rattle.memory_map.specs.Range.{byte_at, code_at, run_of, HasBytes};
 ghost use Rattle.memory_map.specs.Map.{is_allowed, AreAllowed, range_of, mapped, map_fault, total_size, all_apart, are_apart, is_in_user_space, IsMap, Allows, MAPPED_LIMIT};
@@ -127,7 +127,8 @@ fn are_allowed(list: &[Segment], from: u64, end: u64, perm: Perm) -> bool
 impl Segments {
     /// Maps segments together; an empty one maps nothing, and goes.
     pub fn new(mut list: Vec<Segment>) -> Result<Segments, MapFault>
-        ensures { MatchResult result (λ s. (s ≡ mapped list.items) × (map_fault (map range_of (mapped list.items)) ≡ None)) (λ e. (e ≡ MapFault.Memory) ⊎ (map_fault (map range_of (mapped list.items)) ≡ Some e)) }
+        ensures exact { MatchResult result (λ s. (s ≡ mapped list.items) × (map_fault (map range_of (mapped list.items)) ≡ None)) (λ e. (e ≡ MapFault.Memory) ⊎ (map_fault (map range_of (mapped list.items)) ≡ Some e)) }
+        ensures map { IfOk result (λ s. IsMap (map range_of s)) }
     {
         list.retain(|s| !s.is_empty());
         if !are_in_user_space(&list) {

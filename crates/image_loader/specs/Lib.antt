@@ -1,0 +1,5 @@
+pub mod ElfHeader
+pub mod FormE
+pub mod Shown
+pub mod Loaded
+pub mod FaultNumber
