@@ -1,11 +1,12 @@
-ghost use Rattle.std.specs.Prelude.{◌≡◌, map, option_copied};
+ghost use Rattle.std.specs.Prelude.{◌≡◌, IfSome, IsTrue, map, option_copied};
+ghost use Rattle.memory_map.specs.Name.{is_name};
 ghost use Rattle.memory_map.specs.Range.{code_at, run_of};
 ghost use Rattle.memory_map.specs.Image.{name_at, IsLoaded};
 ghost use Rattle.memory_map.specs.Map.{range_of, IsMap};
 ghost use Rattle.image_loader.specs.Shown.{shown_of};
 
 use arrayvec::ArrayVec;
-use memory_map::{Name, Segments, USER_END};
+use memory_map::{Name, Segments, Span, USER_END};
 use std::marker::Model;
 
 /// An image as it is loaded: its segments, its entry, and the names that it imports.
@@ -56,9 +57,18 @@ impl Image {
         self.segments.fetch(a)
     }
 
+    /// The spans whose bytes are anything at the start.
+    pub fn unset(&self) -> &[Span]
+        ensures { result.now ≡ self.now.unset }
+    {
+        let _ = &self.names;
+        &[]
+    }
+
     /// The imported name whose place an address is. Places stand 16 bytes apart from 16 bytes after the exit place on.
     pub fn name_at(&self, place: u32) -> Option<&[u8]>
-        ensures { option_copied result ≡ name_at self.now place }
+        ensures found { option_copied result ≡ name_at self.now place }
+        ensures name { IfSome result (λ n. IsTrue (is_name n.now)) }
     {
         if place < USER_END + 16 {
             return None;

@@ -6,14 +6,14 @@ use Rattle.memory_map.specs.Image.{Image, EXIT_PLACE}
 use Rattle.image_loader.proofs.Places.{name_at-below, name_at-between, name_at-place}
 use Rattle.image_loader.proofs.image.Image.name_at.Goals as goal
 
-pub returns-then-place : goal.returns-then-place
-returns-then-place c = sym (name_at-below c.args.self.now c.args.place (omega arith))
+pub returns-then-place-clause-found : goal.returns-then-place-clause-found
+returns-then-place-clause-found c = sym (name_at-below c.args.self.now c.args.place (omega arith))
 
-pub returns-then-place-ne0 : goal.returns-then-place-ne0
-returns-then-place-ne0 c = sym (name_at-between c.args.self.now c.args.place (omega arith) (λ e. omega arith))
+pub returns-then-place-ne0-clause-found : goal.returns-then-place-ne0-clause-found
+returns-then-place-ne0-clause-found c = sym (name_at-between c.args.self.now c.args.place (omega arith) (λ e. omega arith))
 
-pub returns-in-Some : goal.returns-in-Some
-returns-in-Some c =
+pub returns-in-Some-clause-found : goal.returns-in-Some-clause-found
+returns-in-Some-clause-found c =
     let i = (c.args.place - EXIT_PLACE) / 16 - 1 in
     let known = c.in-Some.ensures.lookup in
     let names = c.deref.ensures.value ∙ ap (λ (m : Image). m.names) c.self.view_is in
@@ -22,8 +22,8 @@ returns-in-Some c =
     ∙ ap (λ (l : List (List ℕ)). slice_get l i) names
     ∙ sym (name_at-place c.args.self.now c.args.place (omega arith) (omega arith))
 
-pub returns-in-None : goal.returns-in-None
-returns-in-None c =
+pub returns-in-None-clause-found : goal.returns-in-None-clause-found
+returns-in-None-clause-found c =
     let i = (c.args.place - EXIT_PLACE) / 16 - 1 in
     let known = c.in-None.ensures.lookup in
     let names = c.deref.ensures.value ∙ ap (λ (m : Image). m.names) c.self.view_is in
