@@ -1,2 +1,4 @@
 pub mod Post
+pub mod Posted
 pub mod Analysis
+pub mod Exploring

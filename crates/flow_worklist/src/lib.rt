@@ -2,3 +2,8 @@
 // It stands on image_loader, x86_decoder, x86_machine, automaton_text and flow_log.
 // Its contract: `explore` gives exactly the log that is defined, and `automaton_of` exactly its automaton.
 #![tactic(auto)]
+
+// mod log;
+mod post;
+
+// pub use log::{Log, Row, explore};

@@ -1,10 +1,11 @@
-ghost use Rattle.std.specs.Prelude.{◌≡◌, Some, None, if◌then◌else◌, IsTrue, ◌&&◌, length, nat_eq, nat_le, refl};
+ghost use Rattle.std.specs.Prelude.{◌≡◌, IfOk, Some, None, if◌then◌else◌, IsTrue, ◌&&◌, length, nat_eq, nat_le, refl};
 ghost use Rattle.std.specs.Cmp.{nat_cmp_total, nat_eq_equiv, partial_equiv_from_equiv, unsigned_po, unsigned_ties};
 ghost use Rattle.std.specs.Cmp.Lexicographic.{lists_agrees, lists_equiv, lists_per, lists_po, lists_ties, lists_total, pointwise, slice_cmp, slice_partial_cmp};
 ghost use Rattle.std.specs.Ordering.{nat_cmp};
 ghost use Rattle.std.specs.List.{list_all};
 ghost use Rattle.memory_map.specs.Name.{is_name, is_name_byte};
 
+use std::alloc::{AllocError, Global};
 use std::cmp::Ordering;
 use std::marker::Model;
 
@@ -38,6 +39,14 @@ impl Name {
         } else {
             None
         }
+    }
+
+    /// The same name again.
+    pub fn copy(&self, alloc: Global) -> Result<Name, AllocError>
+        ensures { IfOk result (λ copy. copy ≡ self.now) }
+    {
+        let held = Vec::from_slice(alloc, self.held.as_slice())?;
+        Ok(Name { held })
     }
 
     /// Its bytes, in order.
