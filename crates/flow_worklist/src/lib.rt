@@ -3,7 +3,9 @@
 // Its contract: `explore` gives exactly the log that is defined, and `automaton_of` exactly its automaton.
 #![tactic(auto)]
 
-// mod log;
+mod exploring;
+mod log;
 mod post;
 
-// pub use log::{Log, Row, explore};
+pub use exploring::explore;
+pub use log::{Log, Row};

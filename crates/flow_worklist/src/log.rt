@@ -1,0 +1,105 @@
+ghost use Rattle.std.specs.Prelude.{◌≡◌};
+ghost use Rattle.flow_worklist.specs.Rows.{row_with};
+
+use flow_log::{Cause, Edge};
+use std::marker::Model;
+
+/// A row of a log: a location, the row from whose expansion it came, and whether it is expanded itself.
+#[derive(Drop)]
+pub struct Row {
+    parent: Option<u32>,
+    location: u32,
+    expanded: bool,
+}
+
+impl Model for Row {
+    ghost use Rattle.std.specs.Prelude.{ℕ};
+    ghost use Rattle.flow_log.specs.Log.{Row as LogRow};
+    ghost use Rattle.flow_worklist.specs.Post.{NoState};
+    ghost use Rattle.flow_worklist.specs.Rows.{row_with};
+
+    ghost Value = { LogRow NoState };
+
+    ghost view = { λ r. row_with r.parent r.location r.expanded };
+}
+
+impl Row {
+    /// A row with these parts.
+    pub fn new(parent: Option<u32>, location: u32, expanded: bool) -> Row
+        ensures { result ≡ row_with parent location expanded }
+    {
+        Row {
+            parent,
+            location,
+            expanded,
+        }
+    }
+
+    /// The number of the row from whose expansion it came.
+    pub fn parent(&self) -> Option<u32>
+        ensures { result ≡ self.now.parent }
+    {
+        self.parent
+    }
+
+    /// The address.
+    pub fn location(&self) -> u32
+        ensures { result ≡ self.now.location }
+    {
+        self.location
+    }
+
+    /// Whether it is expanded.
+    pub fn is_expanded(&self) -> bool
+        ensures { result ≡ self.now.expanded }
+    {
+        self.expanded
+    }
+}
+
+/// A log, by its rows, its edges, the causes by the number of the row, and the written ranges.
+#[derive(Drop)]
+pub struct Log {
+    pub(crate) rows: Vec<Row>,
+    pub(crate) edges: Vec<Edge>,
+    pub(crate) causes: Vec<(u32, Cause)>,
+    pub(crate) writes: Vec<(u32, u32)>,
+}
+
+impl Model for Log {
+    ghost use Rattle.flow_worklist.specs.Analysis.{ImageLog};
+
+    ghost Value = { ImageLog };
+
+    ghost view = { λ l. record { rows = l.rows.items; edges = l.edges.items; causes = l.causes.items; writes = l.writes.items } };
+}
+
+impl Log {
+    /// The rows, in order.
+    pub fn rows(&self) -> &[Row]
+        ensures { result.now ≡ self.now.rows }
+    {
+        self.rows.as_slice()
+    }
+
+    /// The edges, in row order.
+    pub fn edges(&self) -> &[Edge]
+        ensures { result.now ≡ self.now.edges }
+    {
+        self.edges.as_slice()
+    }
+
+    /// The causes that expansions gave, each with the number of its row.
+    pub fn causes(&self) -> &[(u32, Cause)]
+        ensures { result.now ≡ self.now.causes }
+    {
+        self.causes.as_slice()
+    }
+
+    /// The ranges that expansions may write: where each is low, and how many bytes.
+    pub fn writes(&self) -> &[(u32, u32)]
+        ensures { result.now ≡ self.now.writes }
+    {
+        self.writes.as_slice()
+    }
+}
