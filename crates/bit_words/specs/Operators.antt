@@ -69,6 +69,10 @@ formula Sign8 w x y = word_of w (signed_of B8 x)
 formula Sign16 w x y = word_of w (signed_of B16 x)
 formula Swap w x y = cut w (bytes_reversed x)
 
--- an operator's value: an operand that is no count is first cut to the width
+-- the second operand: cut to the width where it is no count
+abbrev pub operand : Op → Width → ℕ → ℕ
+operand op w b = if takes_count op then b else cut w b
+
+-- an operator's value, at operands of any size
 unfoldable pub apply_op : Op → Width → ℕ → ℕ → ℕ
-apply_op op w a b = formula op w (cut w a) (if takes_count op then b else cut w b)
+apply_op op w a b = formula op w (cut w a) (operand op w b)

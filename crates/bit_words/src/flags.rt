@@ -78,14 +78,26 @@ pub fn flags_of_logic(w: Width, word: u32) -> Flags
 fn sum_overflows(w: Width, a: u32, b: u32, carry: bool) -> bool
     ensures { result ≡ not (is_signed w (signed_of w a +ℤ signed_of w b +ℤ pos (one_if carry))) }
 {
-    !w.holds(w.signed(a) + w.signed(b) + i64::from(carry))
+    !w.holds(signed_sum(w.signed(a), w.signed(b), carry))
 }
 
 // Whether the difference of two words as signed numbers, less a borrow, is no signed number of the width.
 fn difference_overflows(w: Width, a: u32, b: u32, borrow: bool) -> bool
     ensures { result ≡ not (is_signed w (signed_of w a -ℤ signed_of w b -ℤ pos (one_if borrow))) }
 {
-    !w.holds(w.signed(a) - w.signed(b) - i64::from(borrow))
+    !w.holds(signed_difference(w.signed(a), w.signed(b), borrow))
+}
+
+fn signed_sum(x: i32, y: i32, carry: bool) -> i64
+    ensures { result ≡ x +ℤ y +ℤ pos (one_if carry) }
+{
+    i64::from(x) + i64::from(y) + i64::from(carry)
+}
+
+fn signed_difference(x: i32, y: i32, borrow: bool) -> i64
+    ensures { result ≡ x -ℤ y -ℤ pos (one_if borrow) }
+{
+    i64::from(x) - i64::from(y) - i64::from(borrow)
 }
 
 // PF, ZF and SF by a word that is a result, the others as given, DF clear.

@@ -1,6 +1,6 @@
-ghost use Rattle.std.specs.Prelude.{◌≡◌, ◌*◌, ◌/◌, ◌^◌, ◌<◌, ◌≤◌};
-ghost use Rattle.bit_words.specs.Operators.{apply_op, high_signed, rotated};
-ghost use Rattle.bit_words.specs.Width.{bits_of};
+ghost use Rattle.std.specs.Prelude.{◌≡◌, ◌*◌, ◌*ℤ◌, ◌/◌, ◌^◌, ◌<◌, ◌≤◌};
+ghost use Rattle.bit_words.specs.Operators.{apply_op, rotated};
+ghost use Rattle.bit_words.specs.Width.{bits_of, modulo};
 
 use crate::width::Width;
 
@@ -60,10 +60,10 @@ pub fn apply(op: Op, w: Width, a: u32, b: u32) -> u32
         Op::Neg => w.low(w.size() - u64::from(x)),
         Op::Mul => w.low(u64::from(x) * u64::from(y)),
         Op::HighU => high_unsigned(w, x, y),
-        Op::HighS => high_of_signed(w, x, y),
+        Op::HighS => high_of(w, product_of(w.signed(x), w.signed(y))),
         Op::Shl => w.low(u64::from(x) << b.min(w.bits())),
         Op::Shr => (u64::from(x) >> b.min(w.bits())) as u32,
-        Op::Sar => w.word(w.signed(x) >> b.min(w.bits())),
+        Op::Sar => w.word(i64::from(w.signed(x)) >> b.min(w.bits())),
         Op::Rol => rotated_left(w, x, b % w.bits()),
         Op::Ror => rotated_left(w, x, w.bits() - b % w.bits()),
         Op::Eq => u32::from(x == y),
@@ -74,8 +74,8 @@ pub fn apply(op: Op, w: Width, a: u32, b: u32) -> u32
         Op::PutLow8 => w.cut(x - x % 0x100 + y % 0x100),
         Op::PutHigh8 => w.cut(x - x % 0x1_0000 + y % 0x100 * 0x100 + x % 0x100),
         Op::PutLow16 => w.cut(x - x % 0x1_0000 + y % 0x1_0000),
-        Op::Sign8 => w.word(Width::B8.signed(x)),
-        Op::Sign16 => w.word(Width::B16.signed(x)),
+        Op::Sign8 => w.word(i64::from(Width::B8.signed(x))),
+        Op::Sign16 => w.word(i64::from(Width::B16.signed(x))),
         Op::Swap => w.cut(x.swap_bytes()),
     }
 }
@@ -89,12 +89,17 @@ fn high_unsigned(w: Width, x: u32, y: u32) -> u32
     ((u64::from(x) * u64::from(y)) >> w.bits()) as u32
 }
 
-// The high half of the product of two words as signed numbers.
-fn high_of_signed(w: Width, x: u32, y: u32) -> u32
-    ensures { result ≡ high_signed w x y }
+// The high half of a product of two signed words, of twice the width.
+fn high_of(w: Width, product: i64) -> u32
+    ensures { result ≡ modulo product (2 ^ (2 * bits_of w)) / 2 ^ bits_of w }
 {
-    let product = w.signed(x) * w.signed(y);
     w.low(product.cast_unsigned() >> w.bits())
+}
+
+fn product_of(x: i32, y: i32) -> i64
+    ensures { result ≡ x *ℤ y }
+{
+    i64::from(x) * i64::from(y)
 }
 
 // A word rotated left by at most its width.

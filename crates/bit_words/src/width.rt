@@ -76,14 +76,14 @@ impl Width {
     }
 
     /// The integer that the low bits of a number stand for in two's complement.
-    pub fn signed(self, n: u32) -> i64
+    pub fn signed(self, n: u32) -> i32
         ensures { result ≡ signed_of self n }
     {
         let word = self.cut(n);
-        if word <= self.ones() / 2 {
-            i64::from(word)
+        if word < self.top() {
+            word as i32
         } else {
-            -1 - i64::from(self.ones() - word)
+            -1 - (self.ones() - word) as i32
         }
     }
 
