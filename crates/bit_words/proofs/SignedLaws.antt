@@ -1,5 +1,5 @@
 -- Words and the integers that they stand for; the operators that the manual states over signed numbers.
-use Rattle.std.proofs.Common.{◌≡◌, ℕ, zero, suc, ◌+◌, ◌-◌, ◌*◌, ◌/◌, ◌%◌, ◌^◌, ◌<◌, ◌≤◌, min, Bool, true, false, cond, refl, sym, ap, ◌∙◌, subst, arith, ltb, if◌then◌else◌, ℤ, pos, negsuc, ◌*ℤ◌, lit<, lit≤}
+use Rattle.std.proofs.Common.{◌≡◌, ℕ, suc, ◌+◌, ◌-◌, ◌*◌, ◌/◌, ◌%◌, ◌^◌, ◌<◌, ◌≤◌, min, Bool, true, false, refl, sym, ap, ◌∙◌, subst, arith, ltb, if◌then◌else◌, ℤ, pos, negsuc, ◌*ℤ◌, lit<, lit≤}
 use Rattle.std.proofs.lemmas.Nat.{pow_pos, div-add-mod', shr_le}
 use Rattle.std.proofs.lemmas.Bool.{ltb-true, ltb-false, lt-ltb, le-ltb}
 use Rattle.std.proofs.lemmas.Int.{wrapping_mul-bits, of_z-to_z}
@@ -9,7 +9,6 @@ use Rattle.std.specs.Prelude.{unsigned_abs}
 use Rattle.std.proofs.Math.Nat.{mod-lt, mod-eq_of_lt, div-lt_iff_lt-mul, pow-le-pow_right, zero-mod}
 use Rattle.bit_words.specs.declared.width.Width.{Width}
 use Rattle.bit_words.specs.declared.width.Width.TheVariants.{B8, B16, B32}
-use Rattle.bit_words.specs.declared.op.Op.{Op}
 use Rattle.bit_words.specs.declared.op.Op.TheVariants.{Mul, HighS, Sar, Sign8, Sign16}
 use Rattle.bit_words.specs.Width.{bits_of, cut, signed_of, modulo, word_of, is_signed}
 use Rattle.bit_words.specs.Operators.{apply_op, formula, shifted_down}

@@ -1,9 +1,8 @@
-use bitflags::Flags as _;
-
 use crate::flags::{flags_of_add, flags_of_logic, flags_of_sub};
 use crate::op::Op::{self, *};
 use crate::op::apply;
 use crate::width::Width::{self, B8, B16, B32};
+use bitflags::Flags as _;
 
 // Worked by hand from the operations of the manual's instructions.
 static VALUES: [(Op, Width, u32, u32, u32); 96] = [
@@ -161,10 +160,18 @@ fn operators_and_flags_are_those_of_the_manual(rt: HostRuntime) {
         assert_eq!(rt; apply(*op, *w, *a, *b), *want, "{op:?} {w:?} {a} {b}");
     }
     for (w, a, b, carry, want) in &SUMS {
-        assert_eq!(rt; flags_of_add(*w, *a, *b, *carry).bits(), *want, "{w:?} {a} + {b} + {carry}");
+        assert_eq!(rt;
+            flags_of_add(*w, *a, *b, *carry).bits(),
+            *want,
+            "{w:?} {a} + {b} + {carry}"
+        );
     }
     for (w, a, b, borrow, want) in &DIFFERENCES {
-        assert_eq!(rt; flags_of_sub(*w, *a, *b, *borrow).bits(), *want, "{w:?} {a} - {b} - {borrow}");
+        assert_eq!(rt;
+            flags_of_sub(*w, *a, *b, *borrow).bits(),
+            *want,
+            "{w:?} {a} - {b} - {borrow}"
+        );
     }
     for (w, word, want) in &RESULTS {
         assert_eq!(rt; flags_of_logic(*w, *word).bits(), *want, "{w:?} {word}");
