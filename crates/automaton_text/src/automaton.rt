@@ -1,4 +1,8 @@
-use flow_log::{Cause, Edge, Items};
+ghost use Rattle.std.specs.Prelude.{◌≡◌};
+ghost use Rattle.flow_log.specs.Ordered.{ordered_set};
+ghost use Rattle.automaton_text.specs.Orders.{mark_cmp};
+
+use flow_log::{Cause, Edge, Items, sorted_set};
 use memory_map::Name;
 
 /// An address at which a run may stand, and the import's name where it is the place of one.
@@ -22,4 +26,11 @@ pub struct Automaton {
     pub locations: Items<Location>,
     pub edges: Items<Edge>,
     pub marks: Items<OpenMark>,
+}
+
+/// Marks in the order of every text, each once; takes no memory.
+pub fn sorted_marks(marks: Vec<OpenMark>) -> Vec<OpenMark>
+    ensures { result.items ≡ ordered_set mark_cmp marks.items }
+{
+    sorted_set(marks)
 }

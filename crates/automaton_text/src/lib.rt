@@ -6,5 +6,5 @@
 mod automaton;
 mod print;
 
-pub use automaton::{Automaton, Location, OpenMark};
+pub use automaton::{Automaton, Location, OpenMark, sorted_marks};
 pub use print::print_automaton;
