@@ -13,27 +13,27 @@ module _ {S E C W : Type 0} (a : Analysis S E C W) (log : Log S E C W) where
   unfolding marks_of
   mark_fixed row c held holds = (
     c,
-    Contains-append_left (flat_map (λ r. marked a r.location (a.fixed log.writes r.location)) log.rows ++ filter_map (mark_of_cause a log.rows) log.causes) _ (row.location, c)
-        (Contains-append_left (flat_map (λ r. marked a r.location (a.fixed log.writes r.location)) log.rows) _ (row.location, c)
-        (Contains-flat_map (λ r. marked a r.location (a.fixed log.writes r.location)) log.rows row (row.location, c) held
+    Contains-append_left (flat_map (λ r. marked r.location (a.fixed log.writes r.location)) log.rows ++ filter_map (mark_of_cause log.rows) log.causes) _ (row.location, c)
+        (Contains-append_left (flat_map (λ r. marked r.location (a.fixed log.writes r.location)) log.rows) _ (row.location, c)
+        (Contains-flat_map (λ r. marked r.location (a.fixed log.writes r.location)) log.rows row (row.location, c) held
         (Contains-map (λ d. (row.location, d)) (a.fixed log.writes row.location) c holds))),
   )
 
   mark_cause : (number : ℕ) (row : Row S) (c : C) → slice_get log.rows number ≡ Some row → Contains log.causes (number, c) → IsOpen a log row.location
   unfolding marks_of
   mark_cause number row c at holds =
-      let found : mark_of_cause a log.rows (number, c) ≡ Some (row.location, c) = ap (option_map (λ r. (r.location, c))) at in (
+      let found : mark_of_cause log.rows (number, c) ≡ Some (row.location, c) = ap (option_map (λ r. (r.location, c))) at in (
         c,
-        Contains-append_left (flat_map (λ r. marked a r.location (a.fixed log.writes r.location)) log.rows ++ filter_map (mark_of_cause a log.rows) log.causes) _ (row.location, c)
-            (Contains-append_right (flat_map (λ r. marked a r.location (a.fixed log.writes r.location)) log.rows) (filter_map (mark_of_cause a log.rows) log.causes) (row.location, c)
-            (Contains-filter_map (mark_of_cause a log.rows) log.causes (number, c) (row.location, c) holds found)),
+        Contains-append_left (flat_map (λ r. marked r.location (a.fixed log.writes r.location)) log.rows ++ filter_map (mark_of_cause log.rows) log.causes) _ (row.location, c)
+            (Contains-append_right (flat_map (λ r. marked r.location (a.fixed log.writes r.location)) log.rows) (filter_map (mark_of_cause log.rows) log.causes) (row.location, c)
+            (Contains-filter_map (mark_of_cause log.rows) log.causes (number, c) (row.location, c) holds found)),
       )
 
   mark_spent : (row : Row S) → Contains log.rows row → row.expanded ≡ false → IsOpen a log row.location
   unfolding marks_of
   mark_spent row held unexpanded = (
     a.spent,
-    Contains-append_right (flat_map (λ r. marked a r.location (a.fixed log.writes r.location)) log.rows ++ filter_map (mark_of_cause a log.rows) log.causes)
+    Contains-append_right (flat_map (λ r. marked r.location (a.fixed log.writes r.location)) log.rows ++ filter_map (mark_of_cause log.rows) log.causes)
         (map (λ r. (r.location, a.spent)) (filter (λ r. not r.expanded) log.rows)) (row.location, a.spent)
         (Contains-map (λ r. (r.location, a.spent)) (filter (λ r. not r.expanded) log.rows) row (Contains-filter (λ r. not r.expanded) log.rows row held (ap not unexpanded))),
   )

@@ -74,13 +74,14 @@ module _ {S E C W : Type 0} (a : Analysis S E C W) (budget : ℕ) where
   unfoldable pub log_of : Log S E C W
   log_of = explored budget 0 first_log
 
-module _ {S E C W : Type 0} (a : Analysis S E C W) where
-  abbrev pub marked : ℕ → List C → List (ℕ × C)
-  marked location causes = map (λ c. (location, c)) causes
+abbrev pub marked : {C : Type 0} → ℕ → List C → List (ℕ × C)
+marked location causes = map (λ c. (location, c)) causes
 
-  -- the location of the row of a number, with a cause
-  abbrev pub mark_of_cause : List (Row S) → ℕ × C → Option (ℕ × C)
-  mark_of_cause rows noted = option_map (λ row. (row.location, noted.1)) (slice_get rows noted.0)
+-- the location of the row of a number, with a cause
+abbrev pub mark_of_cause : {S C : Type 0} → List (Row S) → ℕ × C → Option (ℕ × C)
+mark_of_cause rows noted = option_map (λ row. (row.location, noted.1)) (slice_get rows noted.0)
+
+module _ {S E C W : Type 0} (a : Analysis S E C W) where
 
   -- the marks of open locations: what holds of the locations themselves, what expansions gave, and the rows that were not expanded
   unfoldable pub marks_of : Log S E C W → List (ℕ × C)

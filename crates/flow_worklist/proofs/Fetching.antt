@@ -59,3 +59,24 @@ none_passes test a (suc n) zero none less =
 none_passes test a (suc n) (suc i) none less =
     let e : a + suc i ≡ (a + 1) + i = omega arith in
     ap test e ∙ none_passes test (a + 1) n i (or_right (test a) (list_any test (range_with_len (a + 1) n)) none) (omega arith)
+
+-- one that does makes it true
+pub one_passes : (test : ℕ → Bool) (a n i : ℕ) → i < n → test (a + i) ≡ true → list_any test (range_with_len a n) ≡ true
+one_passes test a zero i less passes = absurd (omega arith)
+one_passes test a (suc n) zero less passes =
+    let e : a + 0 ≡ a = omega arith in ap (λ b. b || list_any test (range_with_len (a + 1) n)) (sym (ap test e) ∙ passes)
+one_passes test a (suc n) (suc i) less passes =
+    let e : a + suc i ≡ (a + 1) + i = omega arith in
+    or_later (test a) (list_any test (range_with_len (a + 1) n)) (one_passes test (a + 1) n i (omega arith) (sym (ap test e) ∙ passes))
+    where
+      or_later : (x y : Bool) → y ≡ true → (x || y) ≡ true
+      or_later true y h = refl
+      or_later false y h = h
+
+-- and where none does it is false
+pub none_of_row : (test : ℕ → Bool) (a n : ℕ) → ((i : ℕ) → i < n → test (a + i) ≡ false) → list_any test (range_with_len a n) ≡ false
+none_of_row test a zero fails = refl
+none_of_row test a (suc n) fails =
+    let first : a + 0 ≡ a = omega arith in
+    ap (λ b. b || list_any test (range_with_len (a + 1) n)) (sym (ap test first) ∙ fails 0 (omega arith))
+    ∙ none_of_row test (a + 1) n (λ i less. let e : a + suc i ≡ (a + 1) + i = omega arith in sym (ap test e) ∙ fails (suc i) (omega arith))

@@ -1,4 +1,5 @@
 pub mod Fetching
 pub mod Posting
 pub mod Expanding
+pub mod Marking
 pub mod StepSound

@@ -1,7 +1,6 @@
 -- The analysis of an image, its log, and the automaton of a log.
-use Rattle.std.specs.Prelude.{ℕ, Bool, true, List, map, Option, ◌≡◌, false}
-use Rattle.std.specs.Ordering.{nat_cmp, ordering_then}
-use Rattle.std.specs.declared.cmp.Ordering.{Ordering}
+use Rattle.std.specs.Prelude.{ℕ, true, List, map, ◌≡◌, false, unwrap_or, option_map, slice_get}
+use Rattle.std.specs.Ordering.{nat_cmp}
 use Rattle.memory_map.specs.Range.{code_at}
 use Rattle.memory_map.specs.Image.{Image, name_at}
 use Rattle.memory_map.specs.State.{MachineState, memory}
@@ -9,10 +8,11 @@ use Rattle.flow_log.specs.declared.cause.Cause.{Cause}
 use Rattle.flow_log.specs.declared.cause.Cause.TheVariants as causes
 use Rattle.flow_log.specs.declared.edge.Edge.{Edge}
 use Rattle.flow_log.specs.Analysis.{Analysis}
-use Rattle.flow_log.specs.Log.{Log, log_of, marks_of}
+use Rattle.flow_log.specs.Log.{Log, Row, log_of, marks_of}
 use Rattle.flow_log.specs.Ordered.{ordered_set}
-use Rattle.flow_log.specs.Orders.{edge_cmp, cause_rank}
+use Rattle.flow_log.specs.Orders.{edge_cmp}
 use Rattle.x86_machine.specs.Machine.{label_by}
+use Rattle.automaton_text.specs.Orders.{mark_cmp}
 use Rattle.automaton_text.specs.declared.automaton.Automaton.{Automaton}
 use Rattle.automaton_text.specs.declared.automaton.Location.{Location}
 use Rattle.automaton_text.specs.declared.automaton.OpenMark.{OpenMark}
@@ -48,14 +48,14 @@ location_of image a = record { at = a; name = name_at image a }
 abbrev pub mark_of : ℕ × Cause → OpenMark
 mark_of mark = record { at = mark.0; cause = mark.1 }
 
--- marks in the order of every text: by the location, then by the table of causes
-abbrev pub mark_cmp : OpenMark → OpenMark → Ordering
-mark_cmp a b = ordering_then (nat_cmp a.at b.at) (nat_cmp (cause_rank a.cause) (cause_rank b.cause))
+-- where the first row is
+abbrev pub entry_of : List (Row NoState) → ℕ
+entry_of rows = unwrap_or (option_map (λ row. row.location) (slice_get rows 0)) 0
 
 -- the automaton of a log: each list in order, each member once
 unfoldable pub automaton_of : Image → ImageLog → Automaton
 automaton_of image log = record {
-  entry = image.entry;
+  entry = entry_of log.rows;
   locations = map (location_of image) (ordered_set nat_cmp (map (λ row. row.location) log.rows));
   edges = ordered_set edge_cmp log.edges;
   marks = ordered_set mark_cmp (map mark_of (marks_of (analysis_of image) log)) }

@@ -7,6 +7,7 @@ ghost use Rattle.flow_worklist.specs.Exploring.{cause_added, pair_added, pairs_a
 ghost use Rattle.flow_worklist.specs.Growing.{IsIndexed, log_in};
 ghost use Rattle.flow_worklist.specs.Rows.{row_with};
 
+use crate::log::location_at;
 use crate::post::{Post, expanded};
 use crate::{Log, Row};
 use bit_words::NoMemory;
@@ -46,10 +47,7 @@ impl Exploration {
     fn location(&self, number: u32) -> Option<u32>
         ensures { result ≡ option_map (λ row. row.location) (slice_get self.now.rows.items number) }
     {
-        match self.rows.get(number as usize) {
-            Some(row) => Some(row.location()),
-            None => None,
-        }
+        location_at(&self.rows, number)
     }
 
     // A row at a location, unless it has one.

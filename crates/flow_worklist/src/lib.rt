@@ -3,9 +3,12 @@
 // Its contract: `explore` gives exactly the log that is defined, and `automaton_of` exactly its automaton.
 #![tactic(auto)]
 
+mod automaton;
 mod exploring;
+mod fixed;
 mod log;
 mod post;
 
+pub use automaton::automaton_of;
 pub use exploring::explore;
 pub use log::{Log, Row};

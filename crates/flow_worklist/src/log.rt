@@ -1,4 +1,4 @@
-ghost use Rattle.std.specs.Prelude.{◌≡◌};
+ghost use Rattle.std.specs.Prelude.{◌≡◌, option_map, slice_get};
 ghost use Rattle.flow_worklist.specs.Rows.{row_with};
 
 use flow_log::{Cause, Edge};
@@ -101,5 +101,15 @@ impl Log {
         ensures { result.now ≡ self.now.writes }
     {
         self.writes.as_slice()
+    }
+}
+
+// The location of the row of a number.
+pub(crate) fn location_at(rows: &[Row], number: u32) -> Option<u32>
+    ensures { result ≡ option_map (λ row. row.location) (slice_get rows.now number) }
+{
+    match rows.get(number as usize) {
+        Some(row) => Some(row.location()),
+        None => None,
     }
 }

@@ -1,0 +1,154 @@
+ghost use Rattle.std.specs.Prelude.{◌≡◌, ◌<◌, ◌++◌, IfOk, OnOk, length, map, flat_map, filter, filter_map, not, option_map, option_to_list};
+ghost use Rattle.std.specs.Ordering.{nat_cmp};
+ghost use Rattle.flow_log.specs.Log.{marked, mark_of_cause, marks_of};
+ghost use Rattle.flow_log.specs.Ordered.{ordered_set};
+ghost use Rattle.flow_worklist.specs.Post.{fixed_causes};
+ghost use Rattle.flow_worklist.specs.Analysis.{analysis_of, automaton_of, location_of, mark_of};
+
+use crate::fixed::fixed_cause;
+use crate::log::location_at;
+use crate::{Log, Row};
+use automaton_text::{Automaton, Location, OpenMark, sorted_marks};
+use bit_words::NoMemory;
+use flow_log::{Cause, Edge, Items, sorted_edges, sorted_set};
+use image_loader::Image;
+use memory_map::Name;
+use std::alloc::Global;
+
+/// The automaton of a log that was made with this image.
+pub fn automaton_of(alloc: Global, image: &Image, log: &Log) -> Result<Automaton, NoMemory>
+    requires { 0 < length log.now.rows }
+    ensures { IfOk result (λ a. a ≡ automaton_of image.now log.now) }
+{
+    let entry = log.rows()[0].location();
+    let locations = locations(alloc, image, log.rows())?;
+    let edges = sorted_edges(copies(alloc, log.edges())?);
+    let marks = sorted_marks(marks(alloc, image, log)?);
+    Ok(Automaton {
+        entry,
+        locations: Items::from_vec(locations),
+        edges: Items::from_vec(edges),
+        marks: Items::from_vec(marks),
+    })
+}
+
+fn addresses(alloc: Global, rows: &[Row]) -> Result<Vec<u32>, NoMemory>
+    ensures { IfOk result (λ a. a.items ≡ map (λ row. row.location) rows.now) }
+{
+    let mut found = Vec::new(alloc);
+    for row in rows {
+        found.push(row.location())?;
+    }
+    Ok(found)
+}
+
+fn location(alloc: Global, image: &Image, at: u32) -> Result<Location, NoMemory>
+    ensures { IfOk result (λ l. l ≡ location_of image.now at) }
+{
+    match image.name_at(at) {
+        None => Ok(Location { at, name: None }),
+        Some(name) => Ok(Location {
+            at,
+            name: Name::new(Vec::from_slice(alloc, name)?),
+        }),
+    }
+}
+
+fn locations(alloc: Global, image: &Image, rows: &[Row]) -> Result<Vec<Location>, NoMemory>
+    ensures { IfOk result (λ l. l.items ≡ map (location_of image.now) (ordered_set nat_cmp (map (λ row. row.location) rows.now))) }
+{
+    let sorted = sorted_set(addresses(alloc, rows)?);
+    located(alloc, image, &sorted)
+}
+
+fn located(alloc: Global, image: &Image, sorted: &[u32]) -> Result<Vec<Location>, NoMemory>
+    ensures { IfOk result (λ l. l.items ≡ map (location_of image.now) sorted.now) }
+{
+    let mut found = Vec::new(alloc);
+    for at in sorted {
+        found.push(location(alloc, image, *at)?)?;
+    }
+    Ok(found)
+}
+
+fn copies(alloc: Global, edges: &[Edge]) -> Result<Vec<Edge>, NoMemory>
+    ensures { IfOk result (λ c. c.items ≡ edges.now) }
+{
+    let mut made = Vec::new(alloc);
+    for e in edges {
+        made.push(e.copy(alloc)?)?;
+    }
+    Ok(made)
+}
+
+// All marks, in the order of the definition.
+#[tactic(auto, unfolding(flow_log::specs::Log::marks_of))]
+fn marks(alloc: Global, image: &Image, log: &Log) -> Result<Vec<OpenMark>, NoMemory>
+    ensures { IfOk result (λ m. m.items ≡ map mark_of (marks_of (analysis_of image.now) log.now)) }
+{
+    let mut found = Vec::new(alloc);
+    push_fixed(&mut found, image, log.writes(), log.rows())?;
+    push_causes(&mut found, log.rows(), log.causes())?;
+    push_spent(&mut found, log.rows())?;
+    Ok(found)
+}
+
+fn push_fixed(
+    out: &mut Vec<OpenMark>,
+    image: &Image,
+    writes: &[(u32, u32)],
+    rows: &[Row],
+) -> Result<(), NoMemory>
+    ensures { OnOk result (out.new.items ≡ out.old.items ++ map mark_of (flat_map (λ row. marked row.location (fixed_causes image.now writes.now row.location)) rows.now)) }
+{
+    for row in rows {
+        let at = row.location();
+        if let Some(cause) = fixed_cause(image, writes, at) {
+            out.push(OpenMark { at, cause })?;
+        }
+    }
+    Ok(())
+}
+
+fn push_cause(
+    out: &mut Vec<OpenMark>,
+    rows: &[Row],
+    number: u32,
+    cause: Cause,
+) -> Result<(), NoMemory>
+    ensures { OnOk result (out.new.items ≡ out.old.items ++ option_to_list (option_map mark_of (mark_of_cause rows.now (number, cause)))) }
+{
+    match location_at(rows, number) {
+        None => Ok(()),
+        Some(at) => {
+            out.push(OpenMark { at, cause })?;
+            Ok(())
+        }
+    }
+}
+
+fn push_causes(
+    out: &mut Vec<OpenMark>,
+    rows: &[Row],
+    causes: &[(u32, Cause)],
+) -> Result<(), NoMemory>
+    ensures { OnOk result (out.new.items ≡ out.old.items ++ map mark_of (filter_map (mark_of_cause rows.now) causes.now)) }
+{
+    for noted in causes {
+        push_cause(out, rows, noted.0, noted.1)?;
+    }
+    Ok(())
+}
+
+fn push_spent(out: &mut Vec<OpenMark>, rows: &[Row]) -> Result<(), NoMemory>
+    ensures { OnOk result (out.new.items ≡ out.old.items ++ map mark_of (map (λ row. (row.location, Cause.Budget)) (filter (λ row. not row.expanded) rows.now))) }
+{
+    for row in rows {
+        if !row.is_expanded() {
+            let at = row.location();
+            let cause = Cause::Budget;
+            out.push(OpenMark { at, cause })?;
+        }
+    }
+    Ok(())
+}
