@@ -12,6 +12,8 @@ mod shelf;
 mod sink;
 mod stream_sink;
 mod sure;
+#[cfg(test)]
+mod tests;
 mod writers;
 
 pub use file_shelf::FileShelf;
