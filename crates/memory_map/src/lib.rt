@@ -20,3 +20,6 @@ pub use name::{LONGEST_NAME, Name};
 pub use perm::Perm;
 pub use segment::{Segment, USER_END, USER_LOW};
 pub use segments::{MAPPED_BYTES, Segments};
+
+#[cfg(test)]
+mod tests;
