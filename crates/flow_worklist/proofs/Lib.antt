@@ -3,4 +3,5 @@ pub mod Posting
 pub mod Expanding
 pub mod Marking
 pub mod Starting
+pub mod Spelling
 pub mod StepSound

@@ -1,0 +1,98 @@
+-- The edges of a log of an image are labelled by spellings, and the log has a row.
+use Rattle.std.proofs.Common.{◌≡◌, ℕ, zero, suc, ◌+◌, ◌<◌, ◌⊎◌, Bool, true, false, List, [], ◌∷◌, ◌++◌, length, take, map, cond, Option, Some, None, refl, sym, ◌∙◌, ap, subst, inl, inr, ◌==◌}
+use Rattle.std.specs.Prelude.{Contains, All, slice_get}
+use Rattle.std.proofs.lemmas.List.Elements.{All-push, All-nil, All-weaker, All-contains, All-contains_itself}
+use Rattle.std.proofs.lemmas.Option.{slice_get_within}
+use Rattle.std.proofs.lemmas.Bool.{eqb-true, eqb-false}
+use Rattle.memory_map.specs.Image.{Image, EXIT_PLACE, name_at}
+use Rattle.x86_syntax.specs.declared.instr.Instr.{Instr}
+use Rattle.x86_syntax.specs.Decodes.{Decodes, decoded}
+use Rattle.x86_syntax.proofs.DecodesLemmas.{decoded_finds}
+use Rattle.flow_log.specs.declared.edge.Edge.{Edge}
+use Rattle.flow_log.specs.declared.edge.Label.{Label}
+use Rattle.flow_log.specs.declared.edge.Label.TheVariants.{Code}
+use Rattle.flow_log.specs.contracts.edge.EdgeOrd.TheImpl as edges
+use Rattle.flow_log.specs.Log.{Row, Log, with_pair, with_pairs, with_notes, with_expansion, at_row, explored, log_of, first_log, row_after}
+use Rattle.flow_log.specs.Ordered.{ordered_set}
+use Rattle.flow_log.specs.Orders.{edge_cmp}
+use Rattle.flow_log.proofs.Members.{Contains-here, Contains-later, Contains-none}
+use Rattle.flow_log.proofs.Growing.{Grows, row_kept, explored-grows}
+use Rattle.flow_log.proofs.Ordering.{ordered_set-is, IsSetOf}
+use Rattle.flow_log.proofs.Orders.{derived_exact, edge_sets}
+use Rattle.automaton_text.specs.Text.{IsSpelled, AreSpelled}
+use Rattle.x86_machine.specs.Machine.{label_by}
+use Rattle.flow_worklist.specs.Post.{NoState, image_bytes, post, nothing, caused}
+use Rattle.flow_worklist.specs.Posted.{leads_to}
+use Rattle.flow_worklist.specs.Analysis.{ImageLog, analysis_of, image_log, automaton_of, edge_from}
+use Rattle.flow_worklist.proofs.Posting.{post-exit, post-name, post-none, label-instr}
+
+module _ (image : Image) where
+
+  -- no pair where the expansion has none
+  abbrev Spelled : Edge → Type 0
+  Spelled e = IsSpelled e.label
+
+  no_pair : (pairs : List (ℕ × NoState)) (pair : ℕ × NoState) (P : Type 0) → pairs ≡ [] → Contains pairs pair → P
+  no_pair pairs pair P none held = let Q : List (ℕ × NoState) → Type 0 = λ ps. Contains ps pair in absurd (Contains-none pair (subst Q none held))
+
+  spelled_found : (a : ℕ) (pair : ℕ × NoState) (name : Option (List ℕ)) (d : Option (Instr × ℕ)) → (a ≡ EXIT_PLACE → ⊥) → name_at image a ≡ name
+      → decoded (image_bytes image a) ≡ d → Contains (post image a).next pair → IsSpelled (label_by (name_at image a) (image_bytes image a))
+  spelled_found a pair (Some name) d off named found held = no_pair (post image a).next pair _ (ap (λ x. x.next) (post-name image a name off named)) held
+  spelled_found a pair None None off named found held = no_pair (post image a).next pair _ (ap (λ x. x.next) (post-none image a off named found)) held
+  spelled_found a pair None (Some p) off named found held =
+      let P : Label → Type 0 = IsSpelled in
+      let there : Decodes (image_bytes image a) p.0 p.1 = decoded_finds (image_bytes image a) p.0 p.1 found in
+      subst P (sym (label-instr image a p.0 p.1 named found)) (p.0, there.names)
+
+  spelled_at : (a : ℕ) (pair : ℕ × NoState) (b : Bool) → (a == EXIT_PLACE) ≡ b → Contains (post image a).next pair → Spelled (edge_from image a pair.0)
+  unfolding edge_from
+  spelled_at a pair true is held = no_pair (post image a).next pair _ (ap (λ x. x.next) (post-exit image a (eqb-true a EXIT_PLACE is))) held
+  spelled_at a pair false is held = spelled_found a pair (name_at image a) (decoded (image_bytes image a)) (eqb-false a EXIT_PLACE is) refl refl held
+
+  spelled_pairs : (budget number : ℕ) (row : Row NoState) (pairs : List (ℕ × NoState)) (log : ImageLog)
+      → ((pair : ℕ × NoState) → Contains pairs pair → Spelled (edge_from image row.location pair.0))
+      → All Spelled log.edges → All Spelled (with_pairs (analysis_of image) budget number row pairs log).edges
+  unfolding with_pairs
+  spelled_pairs budget number row [] log each all = all
+  spelled_pairs budget number row (pair ∷ pairs) log each all =
+      spelled_pairs budget number row pairs (with_pair (analysis_of image) budget number row pair log)
+      (λ other held. each other (Contains-later pair other pairs held))
+      (All-push Spelled log.edges (edge_from image row.location pair.0) all (each pair (Contains-here pair pairs)))
+
+  spelled_explored : (budget fuel number : ℕ) (log : ImageLog) → All Spelled log.edges → All Spelled (explored (analysis_of image) budget fuel number log).edges
+  unfolding explored with_expansion
+  spelled_explored budget zero number log all = all
+  spelled_explored budget (suc fuel) number log all =
+      elim (slice_get log.rows number)
+      as (λ found. All Spelled (at_row (analysis_of image) budget found log (λ row. explored (analysis_of image) budget fuel (number + 1) (with_expansion (analysis_of image) budget number row log))).edges)
+      [ None ↦ all
+      | Some row ↦ spelled_explored budget fuel (number + 1) _
+          (spelled_pairs budget number row (post image row.location).next (with_notes (analysis_of image) budget number (post image row.location) log)
+           (λ pair held. spelled_at row.location pair (row.location == EXIT_PLACE) refl held) all) ]
+
+  log_spelled : (budget : ℕ) → All Spelled (image_log image budget).edges
+  unfolding log_of
+  log_spelled budget = spelled_explored budget budget 0 (first_log (analysis_of image) budget) (All-nil Spelled)
+
+  pub log_has_row : (budget : ℕ) → 0 < length (image_log image budget).rows
+  unfolding log_of
+  log_has_row budget =
+      let first = first_log (analysis_of image) budget in
+      let g : Grows first (explored (analysis_of image) budget budget 0 first) = explored-grows (analysis_of image) budget budget 0 first in
+      slice_get_within (image_log image budget).rows 0 (row_after (analysis_of image) budget [] None image.entry tt)
+      (row_kept first (explored (analysis_of image) budget budget 0 first) 0 (row_after (analysis_of image) budget [] None image.entry tt) g refl)
+
+  in_log : (xs : List Edge) (e : Edge) → Contains (ordered_set edge_cmp xs) e → Contains xs e
+  in_log xs e held =
+      let is : IsSetOf edges.ghosts.cmp edges.Laws.total-law (record { same = derived_exact }) xs (ordered_set edges.ghosts.cmp xs) =
+          ordered_set-is edges.ghosts.cmp edges.Laws.total-law (record { same = derived_exact }) xs in
+      let P : List Edge → Type 0 = λ l. Contains l e in
+      is.only e (subst P (sym (edge_sets xs)) held)
+
+  pub automaton_spelled : (budget : ℕ) → AreSpelled (automaton_of image (image_log image budget)).edges
+  unfolding automaton_of
+  automaton_spelled budget =
+      let log = image_log image budget in
+      All-weaker (Contains (ordered_set edge_cmp log.edges)) Spelled
+      (λ e held. All-contains Spelled log.edges e (log_spelled budget) (in_log log.edges e held))
+      (ordered_set edge_cmp log.edges) (All-contains_itself (ordered_set edge_cmp log.edges))
