@@ -1,12 +1,13 @@
 -- Which lines the text of an automaton has.
 use Rattle.std.proofs.Common.{◌≡◌, ℕ, ◌⊎◌, List, [], ◌∷◌, ◌++◌, length, refl, sym, ◌∙◌, ap, subst, inl, inr, append_assoc}
-use Rattle.std.specs.Prelude.{Contains, flat_map}
+use Rattle.std.specs.Prelude.{Contains, flat_map, codes}
 use Rattle.flow_log.specs.declared.edge.Edge.{Edge}
 use Rattle.flow_log.proofs.Members.{Contains-cases, Contains-none}
 use Rattle.automaton_text.specs.declared.automaton.Automaton.{Automaton}
 use Rattle.automaton_text.specs.declared.automaton.Location.{Location}
 use Rattle.automaton_text.specs.declared.automaton.OpenMark.{OpenMark}
-use Rattle.automaton_text.specs.Text.{newline, header_line, entry_line, loc_line, edge_line, open_line, end_line, text_of}
+use Rattle.automaton_text.specs.Text.{newline, header_line, entry_line, loc_line, edge_line, open_line, end_line, text_of, space, suffix_of, label_text, cause_text}
+use Rattle.outside_io.specs.Hex.{hex8}
 use Rattle.jakstab_core.specs.Headline.{IsLineStart, HasLine}
 
 -- a text ends by a newline
@@ -44,17 +45,20 @@ module _ {X : Type 0} (f : X → List ℕ) (ends : (x : X) → EndsLine (f x)) w
       | inr later ↦ has_line (before ++ f y) after xs x text (after_line before (f y) (ends y)) later
                     (e ∙ ap (λ l. l ++ after) (sym (append_assoc before (f y) (flat_map f xs)))) ]
 
+by_newline : (front : List ℕ) → EndsLine (front ++ newline)
+by_newline front = record { front = front; ends = refl }
+
 loc_ends : (l : Location) → EndsLine (loc_line l)
 unfolding loc_line
-loc_ends l = record { front = _; ends = refl }
+loc_ends l = by_newline (codes "loc " ++ hex8 l.at ++ suffix_of l)
 
 edge_ends : (e : Edge) → EndsLine (edge_line e)
 unfolding edge_line
-edge_ends e = record { front = _; ends = refl }
+edge_ends e = by_newline (codes "edge " ++ hex8 e.from ++ space ++ hex8 e.to ++ space ++ label_text e.from e.label)
 
 open_ends : (m : OpenMark) → EndsLine (open_line m)
 unfolding open_line
-open_ends m = record { front = _; ends = refl }
+open_ends m = by_newline (codes "open " ++ hex8 m.at ++ space ++ cause_text m.cause)
 
 module _ (a : Automaton) where
 
@@ -63,7 +67,7 @@ module _ (a : Automaton) where
 
   head_starts : IsLineStart (head)
   unfolding head
-  head_starts = after_line header_line (entry_line a.entry) (record { front = _; ends = refl })
+  head_starts = after_line header_line (entry_line a.entry) (by_newline (codes "entry " ++ hex8 a.entry))
 
   last : List ℕ
   last = end_line (length a.locations) (length a.edges) (length a.marks)

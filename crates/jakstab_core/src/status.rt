@@ -59,6 +59,7 @@ impl Status {
     }
 
     /// The line that tells it, which is empty where the command was done; takes no memory.
+    #[tactic(auto, unfolding(crate::specs::StatusLine::status_line))]
     pub fn line(self) -> ArrayString<64>
         ensures { result.bytes ≡ status_line self }
     {
