@@ -1,0 +1,29 @@
+// The program `jakstab`: its words, its files and its streams, handed to the top call.
+// It stands on jakstab_core and outside_io.
+// Its contract: it ends with the number of the status that `jakstab` gives.
+#![tactic(auto)]
+
+use jakstab_core::jakstab;
+use outside_io::{FileShelf, StandardStream, StreamSink};
+use std::env;
+use std::io;
+use std::process::ExitCode;
+
+fn main(rt: HostRuntime) -> ExitCode {
+    let alloc = rt.alloc();
+    let words = words(&rt).unwrap_or(Vec::new(alloc));
+    let mut shelf = FileShelf::new(&rt);
+    let mut out = StreamSink::new(StandardStream::Output(rt.stdout()));
+    let mut note = StreamSink::new(StandardStream::Error(rt.stderr()));
+    let status = jakstab(&rt, alloc, &words, &mut shelf, &mut out, &mut note);
+    ExitCode::from(status.number())
+}
+
+// The words after the program's name. Where some are no text there are none.
+fn words(rt: &HostRuntime) -> io::Result<Vec<String>> {
+    let mut words = Vec::new(rt.alloc());
+    for word in env::args(rt)?.skip(1) {
+        words.push(word)?;
+    }
+    Ok(words)
+}
