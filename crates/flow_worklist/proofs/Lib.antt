@@ -2,4 +2,5 @@ pub mod Fetching
 pub mod Posting
 pub mod Expanding
 pub mod Marking
+pub mod Starting
 pub mod StepSound

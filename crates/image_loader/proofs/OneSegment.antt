@@ -1,18 +1,17 @@
 -- The one segment of a file of form E.
-use Rattle.std.proofs.Common.{ℕ, ◌≡◌, ◌+◌, ◌-◌, ◌<◌, ◌≤◌, Bool, true, false, cond, List, [], ◌∷◌, length, take, drop, map, None, Option, refl, sym, ◌∙◌, ap, arith, subst}
-use Rattle.std.specs.Prelude.{◌&&◌, not, nat_le, nat_lt, ◌==◌, slice_range, filter, sum_by}
-use Rattle.std.specs.List.{list_all}
+use Rattle.std.proofs.Common.{ℕ, ◌≡◌, ◌+◌, ◌-◌, ◌≤◌, Bool, true, false, cond, List, [], ◌∷◌, length, drop, map, None, refl, sym, ◌∙◌, ap, arith, subst}
+use Rattle.std.specs.Prelude.{not, nat_le}
 use Rattle.std.proofs.lemmas.List.{length-take, length-drop}
 use Rattle.std.proofs.lemmas.Bool.{le-leb, le-ltb, ne_eqb}
 use Rattle.memory_map.specs.Range.{Range, USER_LOW, USER_END, end_of}
-use Rattle.memory_map.specs.Map.{range_of, mapped, maps_some, map_fault, all_apart, are_apart, is_in_user_space, total_size, has_right, MAPPED_LIMIT}
+use Rattle.memory_map.specs.Map.{range_of, mapped, map_fault, is_in_user_space, has_right, MAPPED_LIMIT}
 use Rattle.memory_map.specs.declared.segment.Segment.{Segment}
 use Rattle.memory_map.proofs.Faults.{map_fault-none}
 use Rattle.memory_map.proofs.Lists.{all_apart-cons, all_apart-nil}
 use Rattle.memory_map.proofs.Access.{and-both}
-use Rattle.image_loader.specs.ElfHeader.{e_phoff, p_vaddr, p_offset, p_filesz, p_memsz}
+use Rattle.image_loader.specs.ElfHeader.{p_offset, p_filesz, p_memsz}
 use Rattle.image_loader.specs.Shown.{shown_of}
-use Rattle.image_loader.specs.FormE.{IsFormE, HasFormESegment, segment_at}
+use Rattle.image_loader.specs.FormE.{HasFormESegment, segment_at}
 
 pub range_of-parts : (s : Segment) (low : ℕ) (bytes : List ℕ) (write execute : Bool) → s.low ≡ low → s.bytes ≡ bytes → has_right s.perm 2 ≡ write → has_right s.perm 4 ≡ execute → range_of s ≡ record { low = low; bytes = bytes; write = write; execute = execute }
 range_of-parts s low bytes write execute a b c d = cc

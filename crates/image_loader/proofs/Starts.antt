@@ -1,16 +1,16 @@
 -- A start state for an image of one segment: the windows lie above a segment in the lower half of the addresses, and else below it.
-use Rattle.std.proofs.Common.{ℕ, ◌≡◌, ◌+◌, ◌-◌, ◌*◌, ◌%◌, ◌^◌, ◌<◌, ◌≤◌, ◌⊎◌, inl, inr, ⊎_elim, Bool, true, false, List, [], ◌∷◌, ◌++◌, length, get_or, take, drop, replicate, refl, sym, ◌∙◌, ap, arith, All, zero, suc}
-use Rattle.std.specs.Prelude.{AllPairs, slice_index, slice_range}
+use Rattle.std.proofs.Common.{ℕ, ◌≡◌, ◌+◌, ◌-◌, ◌%◌, ◌^◌, ◌<◌, ◌≤◌, ◌⊎◌, inl, inr, ⊎_elim, true, false, List, [], ◌∷◌, length, replicate, refl, arith, All}
+use Rattle.std.specs.Prelude.{slice_index}
 use Rattle.std.proofs.lemmas.List.{length-replicate, get_or_past}
 use Rattle.std.proofs.lemmas.List.Elements.{All-nil, All-cons, All-replicate, All-take, All-drop}
 use Rattle.std.proofs.lemmas.Bool.{cases_lt}
-use Rattle.memory_map.specs.Range.{Range, USER_LOW, USER_END, end_of, AreApart, IsInUserSpace, HasBytes}
+use Rattle.memory_map.specs.Range.{Range, USER_END, end_of, AreApart, IsInUserSpace, HasBytes}
 use Rattle.memory_map.specs.Image.{Image}
-use Rattle.memory_map.specs.State.{MachineState, Registers, Flags, HasWords, memory}
-use Rattle.memory_map.specs.Start.{Start, IsWindow, HoldsLoaded, MapsExactly, STACK_BELOW, STACK_ABOVE, BASE_REACH}
+use Rattle.memory_map.specs.State.{MachineState}
+use Rattle.memory_map.specs.Start.{Start, IsWindow, STACK_BELOW, STACK_ABOVE, BASE_REACH}
 use Rattle.memory_map.specs.FileBytes.{word_at}
 use Rattle.memory_map.proofs.Faults.{pairs-cons}
-use Rattle.image_loader.specs.ElfHeader.{e_phoff, e_entry, p_vaddr, p_offset, p_filesz}
+use Rattle.image_loader.specs.ElfHeader.{e_phoff, e_entry, p_vaddr}
 use Rattle.image_loader.specs.FormE.{IsFormE, segment_at, image_of}
 use Rattle.image_loader.proofs.OneSegment.{length-segment_at}
 

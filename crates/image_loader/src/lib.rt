@@ -13,3 +13,6 @@ pub use fault::{LoadFault, fault_number};
 pub use image::Image;
 pub use loader::load;
 pub use start::form_e_can_start;
+
+#[cfg(test)]
+mod tests;

@@ -1,5 +1,5 @@
 -- Accesses that go from segment to segment.
-use Rattle.std.proofs.Common.{ℕ, ◌≡◌, ◌+◌, ◌-◌, ◌^◌, ◌<◌, ◌≤◌, true, List, map, length, get_or, refl, sym, ◌∙◌, ap, subst, arith, IsTrue, ◌↔◌, Bool}
+use Rattle.std.proofs.Common.{ℕ, ◌≡◌, ◌+◌, ◌-◌, ◌^◌, ◌<◌, ◌≤◌, true, List, map, length, get_or, sym, ◌∙◌, ap, subst, arith, IsTrue, ◌↔◌, Bool}
 use Rattle.std.specs.Prelude.{◌&&◌, nat_le, nat_lt}
 use Rattle.std.proofs.lemmas.Bool.{leb-true, ltb-true, le-leb, lt-ltb}
 use Rattle.std.proofs.lemmas.List.{length-map, get_or-map}

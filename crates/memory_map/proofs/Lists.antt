@@ -1,9 +1,9 @@
 -- Facts on lists of ranges: a front of such a list decides what the whole list maps only together with the rest.
-use Rattle.std.proofs.Common.{ℕ, ◌≡◌, ◌+◌, ◌-◌, Bool, true, false, cond, List, [], ◌∷◌, map, length, Option, Some, None, refl, ap, sym, ◌∙◌, arith, zero, suc}
-use Rattle.std.specs.Prelude.{◌&&◌, slice_get, filter, find, option_and_then, sum_by}
+use Rattle.std.proofs.Common.{ℕ, ◌≡◌, ◌+◌, ◌-◌, Bool, true, false, cond, List, [], ◌∷◌, map, Option, Some, None, refl, ap, ◌∙◌, arith, zero, suc}
+use Rattle.std.specs.Prelude.{◌&&◌, slice_get, filter, find, option_and_then}
 use Rattle.std.specs.List.{list_all}
 use Rattle.memory_map.specs.Range.{Range, byte_at, code_at, has, run_of, cons_or_end}
-use Rattle.memory_map.specs.Map.{all_apart, are_apart, total_size}
+use Rattle.memory_map.specs.Map.{all_apart, are_apart}
 
 pub list_all-map : {X Y : Type 0} (p : Y → Bool) (f : X → Y) (xs : List X) → list_all p (map f xs) ≡ list_all (λ x. p (f x)) xs
 list_all-map p f [] = refl

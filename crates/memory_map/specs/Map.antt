@@ -1,5 +1,5 @@
 -- What a list of segments maps, and which lists may be mapped.
-use Rattle.std.specs.Prelude.{◌≡◌, ℕ, ◌+◌, ◌<◌, ◌≤◌, ◌^◌, Bool, true, List, [], ◌∷◌, ◌&&◌, ◌||◌, not, length, Option, None, Some, nat_le, nat_lt, filter, map, sum_by, All, AllPairs, if◌then◌else◌, ◌==◌, bit_and}
+use Rattle.std.specs.Prelude.{◌≡◌, ℕ, ◌+◌, ◌<◌, ◌≤◌, ◌^◌, Bool, true, List, [], ◌∷◌, ◌&&◌, ◌||◌, not, length, Option, None, Some, nat_le, nat_lt, filter, sum_by, All, AllPairs, if◌then◌else◌, ◌==◌, bit_and}
 use Rattle.std.specs.List.{list_all, list_any}
 use Rattle.memory_map.specs.Range.{Range, USER_LOW, USER_END, end_of, has, IsInUserSpace, AreApart, HasBytes}
 use Rattle.memory_map.specs.declared.perm.Perm.{Perm}

@@ -22,3 +22,6 @@ pub use perm::Perm;
 pub use segment::{Segment, USER_END, USER_LOW};
 pub use segments::{MAPPED_BYTES, Segments};
 pub use span::Span;
+
+#[cfg(test)]
+mod tests;

@@ -1,22 +1,39 @@
 -- Hexadecimal texts, in upper-case digits.
-use Rattle.std.specs.Prelude.{ℕ, ◌+◌, ◌/◌, ◌%◌, ◌^◌, nat_lt, if◌then◌else◌, List, [], ◌∷◌, map, flat_map}
+use Rattle.std.specs.Prelude.{◌≡◌, ℕ, ◌<◌, ◌^◌, All, ◌+◌, ◌-◌, ◌*◌, ◌/◌, ◌%◌, ◌&&◌, nat_lt, nat_le, if◌then◌else◌, List, [], ◌∷◌, ◌++◌, zero, suc, flat_map, Option, Some, None, option_and_then}
 
 -- 0 to 9, and A to F for 10 to 15
 unfoldable pub hex_digit : ℕ → ℕ
 hex_digit d = if nat_lt d 10 then 48 + d else 55 + d
 
--- the digit of a number at a place, where place 0 is the last
-abbrev pub hex_place : ℕ → ℕ → ℕ
-hex_place n place = hex_digit (n / 16 ^ place % 16)
+-- the last k digits of a number
+unfoldable pub hex_digits : ℕ → ℕ → List ℕ
+hex_digits zero n = []
+hex_digits (suc k) n = hex_digits k (n / 16) ++ hex_digit (n % 16) ∷ []
 
--- two digits
+-- a byte in two digits
 unfoldable pub hex2 : ℕ → List ℕ
-hex2 n = map (hex_place n) (1 ∷ 0 ∷ [])
+hex2 b = hex_digits 2 b
 
--- eight digits
+-- a word in eight digits
 unfoldable pub hex8 : ℕ → List ℕ
-hex8 n = map (hex_place n) (7 ∷ 6 ∷ 5 ∷ 4 ∷ 3 ∷ 2 ∷ 1 ∷ 0 ∷ [])
+hex8 n = hex_digits 8 n
 
 -- two digits for each byte, without spaces
 unfoldable pub hex_text : List ℕ → List ℕ
 hex_text bytes = flat_map hex2 bytes
+
+-- the text of some bytes
+pub record IsHexText (text : List ℕ) : Type 0 where
+  pub bytes : List ℕ
+  pub small : All (λ b. b < 2 ^ 8) bytes
+  pub same : text ≡ hex_text bytes
+
+-- the number of an upper-case digit
+unfoldable pub digit_number : ℕ → Option ℕ
+digit_number c =
+    if nat_le 48 c && nat_le c 57 then Some (c - 48) else (if nat_le 65 c && nat_le c 70 then Some (c - 55) else None)
+
+-- the number that digits write when they follow those of n
+abbrev pub number_after : ℕ → List ℕ → Option ℕ
+number_after n [] = Some n
+number_after n (c ∷ cs) = option_and_then (λ d. number_after (n * 16 + d) cs) (digit_number c)

@@ -1,14 +1,12 @@
-ghost use Rattle.std.specs.Prelude.{◌≡◌, ◌≢◌, ℕ, List, ◌-◌, ◌<◌, ◌≤◌, ◌^◌, length, IfOk, IfErr, IsErrOf, None};
+ghost use Rattle.std.specs.Prelude.{◌≡◌, ◌≢◌, ℕ, List, ◌-◌, ◌<◌, ◌≤◌, ◌^◌, length, IfOk, IfErr, IsErrOf, OnOk, None};
 ghost use Rattle.outside_io.specs.Outside.{next_count, IsWhole};
 ghost use Rattle.outside_io.specs.Refusals.{Refused, Exceeds};
 
+use crate::shelf::{Shelf, ShelfFault};
 use std::alloc::Global;
-use std::fs;
-use std::io;
 use std::io::Read;
 use std::rt::Files;
-
-use crate::shelf::{Shelf, ShelfFault};
+use std::{fs, io};
 
 /// The shelf of the file system: a name is a path. It does not tell what it holds.
 #[derive(Drop)]
@@ -34,6 +32,8 @@ impl<R: Files + Drop> Shelf for FileShelf<R> {
         requires { limit < 2 ^ 64 - 1 }
         ensures whole { IfOk result (λ content. IsWhole None name.now limit content.items) }
         ensures refused { IfErr result (λ fault. Refused None self.old.faults self.new.faults name.now limit fault) }
+        ensures failed { IsErrOf result ShelfFault.Failed → self.new.faults ≡ next_count self.old.faults }
+        ensures read { OnOk result (self.new.faults ≡ self.old.faults) }
         ensures rising { self.old.faults ≤ self.new.faults }
     {
         let content = match read_file(&self.rt, alloc, name, limit + 1) {

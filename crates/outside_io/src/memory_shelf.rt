@@ -65,6 +65,7 @@ impl Shelf for MemoryShelf {
         ensures whole { IfOk result (λ content. IsWhole (Some (held_in self.old.files)) name.now limit content.items) }
         ensures refused { IfErr result (λ fault. Refused (Some (held_in self.old.files)) self.old.faults self.new.faults name.now limit fault) }
         ensures exact { IsErrOf result ShelfFault.Failed ↔ IsTrue (is_listed self.old.fail_at.items (next_count self.old.calls) || is_none (held_in self.old.files name.now)) }
+        ensures faults { self.new.faults ≡ (if is_listed self.old.fail_at.items (next_count self.old.calls) || is_none (held_in self.old.files name.now) then next_count self.old.faults else self.old.faults) }
         ensures contents { self.new.files ≡ self.old.files }
         ensures fail_at { self.new.fail_at ≡ self.old.fail_at }
         ensures calls { self.new.calls ≡ next_count self.old.calls }

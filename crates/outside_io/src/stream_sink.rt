@@ -1,10 +1,9 @@
 ghost use Rattle.std.specs.Prelude.{◌≡◌, ◌<◌, ◌≤◌, length, take, IfOk, OnOk, OnErr, None};
 ghost use Rattle.outside_io.specs.Outside.{next_count, Rose};
 
+use crate::sink::{Sink, SinkFailed};
 use std::io;
 use std::io::{Stderr, Stdout, Write};
-
-use crate::sink::{Sink, SinkFailed};
 
 /// One of the streams that a program writes to.
 #[derive(Drop)]

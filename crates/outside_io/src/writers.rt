@@ -23,7 +23,7 @@ pub fn push_bytes(out: &mut Vec<u8>, bytes: &[u8]) -> Result<(), NoMemory>
 }
 
 /// Appends the two upper-case hexadecimal digits of a byte.
-#[tactic(auto, unfolding(crate::specs::Hex::hex2))]
+#[tactic(auto, using(crate::proofs::HexFacts::hex2_places))]
 pub fn push_hex2(out: &mut Vec<u8>, b: u8) -> Result<(), NoMemory>
     ensures ok { OnOk result (out.new.items ≡ out.old.items ++ hex2 b) }
     ensures err { OnErr result (out.new.items ≡ out.old.items) }
@@ -32,7 +32,7 @@ pub fn push_hex2(out: &mut Vec<u8>, b: u8) -> Result<(), NoMemory>
 }
 
 /// Appends the eight upper-case hexadecimal digits of a word.
-#[tactic(auto, unfolding(crate::specs::Hex::hex8))]
+#[tactic(auto, using(crate::proofs::HexFacts::hex8_places))]
 pub fn push_hex8(out: &mut Vec<u8>, n: u32) -> Result<(), NoMemory>
     ensures ok { OnOk result (out.new.items ≡ out.old.items ++ hex8 n) }
     ensures err { OnErr result (out.new.items ≡ out.old.items) }

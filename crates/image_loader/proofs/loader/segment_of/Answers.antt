@@ -1,8 +1,8 @@
-use Rattle.std.proofs.Common.{◌≡◌, sym, ◌∙◌, refl, ℕ, ◌+◌, ap}
+use Rattle.std.proofs.Common.{◌∙◌, ℕ, ◌+◌, ap}
 use Rattle.std.specs.Prelude.{slice_range}
 use Rattle.memory_map.specs.FileBytes.{word_at}
 use Rattle.memory_map.specs.Map.{has_right}
-use Rattle.image_loader.specs.ElfHeader.{e_phoff, p_vaddr, p_offset, p_filesz}
+use Rattle.image_loader.specs.ElfHeader.{e_phoff, p_offset}
 use Rattle.image_loader.proofs.OneSegment.{range_of-parts}
 use Rattle.image_loader.proofs.loader.segment_of.Goals as goal
 

@@ -1,4 +1,4 @@
-use Rattle.std.proofs.Common.{List, ◌∷◌, map, ap, sym, ◌∙◌}
+use Rattle.std.proofs.Common.{List, map, ap, sym, ◌∙◌}
 use Rattle.std.specs.List.{list_all}
 use Rattle.std.proofs.lemmas.List.{nil_from_length}
 use Rattle.memory_map.specs.Map.{range_of, all_apart, are_apart}

@@ -1,6 +1,6 @@
 use Rattle.std.proofs.Common.{All, ◌≡◌, ◌≤◌, ◌+◌, map, length}
-use Rattle.memory_map.specs.Range.{HasBytes, byte_at, code_at}
-use Rattle.memory_map.specs.Map.{range_of, total_size, all_apart, MAPPED_LIMIT}
+use Rattle.memory_map.specs.Range.{HasBytes}
+use Rattle.memory_map.specs.Map.{range_of, total_size, MAPPED_LIMIT}
 use Rattle.memory_map.proofs.segments.are_too_large.Given as goal
 
 abbrev pub invariant-loop-first : goal.invariant-loop-first

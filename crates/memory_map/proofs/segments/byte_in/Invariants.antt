@@ -1,6 +1,6 @@
-use Rattle.std.proofs.Common.{◌≡◌, ◌≤◌, ◌+◌, map, length}
-use Rattle.memory_map.specs.Range.{byte_at, code_at}
-use Rattle.memory_map.specs.Map.{range_of, total_size, all_apart, MAPPED_LIMIT}
+use Rattle.std.proofs.Common.{◌≡◌, map, length}
+use Rattle.memory_map.specs.Range.{byte_at}
+use Rattle.memory_map.specs.Map.{range_of}
 use Rattle.memory_map.proofs.segments.byte_in.Given as goal
 
 abbrev pub invariant-loop-first : goal.invariant-loop-first

@@ -1,4 +1,4 @@
-use Rattle.std.proofs.Common.{◌≡◌, ◌+◌, ◌-◌, ◌/◌, ◌%◌, sym, ◌∙◌, arith, ap, ℕ, Some, None, List, length, get_or, refl}
+use Rattle.std.proofs.Common.{◌-◌, ◌/◌, sym, ◌∙◌, arith, ap, ℕ, Some, List, length, refl}
 use Rattle.std.specs.Prelude.{slice_get}
 use Rattle.std.proofs.lemmas.Bool.{ltb-false}
 use Rattle.std.proofs.lemmas.Option.{slice_get_past, slice_get_read}

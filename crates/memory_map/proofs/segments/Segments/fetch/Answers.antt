@@ -1,8 +1,7 @@
-use Rattle.std.proofs.Common.{◌≡◌, ◌+◌, ◌-◌, ◌<◌, ◌++◌, ◌∷◌, [], ap, sym, ◌∙◌, arith, List, ℕ, Some, None, map, length, subst, Option}
+use Rattle.std.proofs.Common.{◌≡◌, ◌+◌, ◌-◌, ◌++◌, ◌∷◌, [], ap, sym, ◌∙◌, arith, List, ℕ, Some, None, map}
 use Rattle.std.proofs.lemmas.List.{append-nil, append_assoc}
 use Rattle.memory_map.specs.Range.{code_at, run_of}
 use Rattle.memory_map.specs.Map.{range_of}
-use Rattle.memory_map.specs.declared.segment.Segment.{Segment}
 use Rattle.memory_map.proofs.Lists.{run_of-stops, run_of-goes, run_of-none}
 use Rattle.memory_map.proofs.segments.Segments.fetch.Goals as goal
 

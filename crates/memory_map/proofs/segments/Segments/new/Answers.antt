@@ -1,8 +1,7 @@
-use Rattle.std.proofs.Common.{List, map, ap, sym, ◌∙◌, ◌≡◌, inr, refl, rules, true, false, All, subst}
+use Rattle.std.proofs.Common.{List, map, ap, sym, ◌∙◌, ◌≡◌, inr, rules, true, false}
 use Rattle.std.specs.Prelude.{nat_lt}
 use Rattle.std.specs.List.{list_all}
 use Rattle.std.proofs.lemmas.List.Elements.{filter_from_retain}
-use Rattle.memory_map.specs.Range.{HasBytes}
 use Rattle.memory_map.specs.Map.{range_of, mapped, maps_some, map_fault, all_apart, is_in_user_space, total_size, MAPPED_LIMIT}
 use Rattle.memory_map.specs.declared.segment.Segment.{Segment}
 use Rattle.memory_map.proofs.Lists.{list_all-map}

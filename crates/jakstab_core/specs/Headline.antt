@@ -1,0 +1,44 @@
+-- The headline: no run of the machine leaves the printed automaton before a location that is printed open.
+use Rattle.std.specs.Prelude.{ℕ, ◌≡◌, ◌⊎◌, List, [], ◌∷◌, ◌++◌, ⊤}
+use Rattle.memory_map.specs.Image.{Image}
+use Rattle.memory_map.specs.State.{MachineState}
+use Rattle.memory_map.specs.Start.{Start}
+use Rattle.flow_log.specs.declared.cause.Cause.{Cause}
+use Rattle.flow_log.specs.Run.{IsRun}
+use Rattle.x86_machine.specs.Machine.{machine_of, edge_of}
+use Rattle.automaton_text.specs.Text.{newline, edge_line, open_line, text_of}
+use Rattle.flow_worklist.specs.Analysis.{image_log, automaton_of}
+
+-- nothing, or whole lines
+abbrev pub IsLineStart : List ℕ → Type 0
+IsLineStart before = (before ≡ []) ⊎ ((front : List ℕ) × (before ≡ front ++ newline))
+
+-- a text has a line, which ends by its newline
+pub record HasLine (text line : List ℕ) : Type 0 where
+  pub before : List ℕ
+  pub after : List ℕ
+  pub whole : text ≡ (before ++ line) ++ after
+  pub starts : IsLineStart before
+
+-- a line of the text leaves the address open
+abbrev pub IsPrintedOpen : List ℕ → ℕ → Type 0
+IsPrintedOpen text a = (cause : Cause) × HasLine text (open_line (record { at = a; cause = cause }))
+
+-- each step that a run makes before it first stands at a location printed open is a printed edge:
+-- the address before, the address after, and the bytes that the machine fetched
+abbrev pub IsCovered : Image → List ℕ → MachineState → List MachineState → Type 0
+IsCovered image text m [] = ⊤
+IsCovered image text m (next ∷ rest) =
+    (IsPrintedOpen text m.eip → ⊥) → HasLine text (edge_line (edge_of image m next)) × IsCovered image text next rest
+
+-- the same of every run: from every allowed start, under every choice, of any number of steps
+abbrev pub CoversRuns : Image → List ℕ → Type 0
+CoversRuns image text = (m : MachineState) → Start image m → (states : List MachineState) → IsRun (machine_of image) m states → IsCovered image text m states
+
+-- how many rows are expanded
+abbrev pub BUDGET : ℕ
+BUDGET = 100000
+
+-- the text of the automaton of the log of an image
+unfoldable pub recovered_text : Image → List ℕ
+recovered_text image = text_of (automaton_of image (image_log image BUDGET))

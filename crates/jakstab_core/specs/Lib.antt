@@ -1,0 +1,4 @@
+pub mod Words
+pub mod StatusLine
+pub mod Headline
+pub mod Says

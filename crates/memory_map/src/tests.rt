@@ -1,0 +1,165 @@
+use super::*;
+use bitflags::Flags;
+use std::alloc::{AllocError, Global};
+use std::test::Fail;
+
+fn segment(alloc: Global, low: u32, size: usize, perm: Perm) -> Result<Segment, AllocError> {
+    let mut held = Vec::with_capacity(alloc, size)?;
+    for i in 0..size {
+        held.push((i % 256) as u8)?;
+    }
+    Ok(Segment {
+        low,
+        bytes: Bytes::from_vec(held),
+        perm,
+    })
+}
+
+fn map(alloc: Global, ranges: &[(u32, usize)]) -> Result<Option<MapFault>, AllocError> {
+    let mut list = Vec::new(alloc);
+    for (low, size) in ranges.iter().copied() {
+        list.push(Segment {
+            low,
+            bytes: Bytes::from_vec(vec![in alloc; 0; size]?),
+            perm: Perm::READ,
+        })?;
+    }
+    Ok(Segments::new(list).err())
+}
+
+#[test]
+fn segments_are_refused_in_order(rt: HostRuntime) -> Result<(), Fail> {
+    let alloc = rt.alloc();
+    assert_eq!(rt;
+        map(alloc, &[(0x1000, 2), (0x1001, 2)])?,
+        Some(MapFault::Overlap)
+    );
+    assert_eq!(rt;
+        map(alloc, &[(0x1001, 2), (0x1000, 2)])?,
+        Some(MapFault::Overlap)
+    );
+    assert_eq!(rt;
+        map(alloc, &[(0x1000, 8), (0x2000, 1), (0x1002, 1)])?,
+        Some(MapFault::Overlap)
+    );
+    assert_eq!(rt; map(alloc, &[(0x1000, 2), (0x1002, 2)])?, None);
+    assert_eq!(rt; map(alloc, &[(0x0FFF, 1)])?, Some(MapFault::OutOfRange));
+    assert_eq!(rt;
+        map(alloc, &[(0x1000, 2), (0x0FFF, 2)])?,
+        Some(MapFault::OutOfRange)
+    );
+    assert_eq!(rt;
+        map(alloc, &[(0xEFFF_FFFF, 2)])?,
+        Some(MapFault::OutOfRange)
+    );
+    assert_eq!(rt;
+        map(alloc, &[(0xFFFF_FFFF, 2)])?,
+        Some(MapFault::OutOfRange)
+    );
+    assert_eq!(rt; map(alloc, &[(0xEFFF_FFFF, 1)])?, None);
+    assert_eq!(rt; map(alloc, &[(0x1000, 2), (0x1001, 0), (0, 0)])?, None);
+    assert_eq!(rt; map(alloc, &[(0x1000, 67_108_864)])?, None);
+    assert_eq!(rt;
+        map(alloc, &[(0x1000, 67_108_864), (0xE000_0000, 1)])?,
+        Some(MapFault::TooLarge)
+    );
+    Ok(())
+}
+
+// 16 bytes 00 to 0F that may be executed, 8 bytes 00 to 07 right after them that may be written, and two at the highest place.
+fn sample(alloc: Global) -> Result<Segments, Fail> {
+    let mut list = Vec::new(alloc);
+    list.push(segment(alloc, 0x2000, 16, Perm::new(false, true))?)?;
+    list.push(segment(alloc, 0x3000, 0, Perm::READ)?)?;
+    list.push(segment(alloc, 0x2010, 8, Perm::new(true, false))?)?;
+    list.push(segment(alloc, 0xEFFF_FFFE, 2, Perm::new(false, true))?)?;
+    match Segments::new(list) {
+        Ok(segments) => Ok(segments),
+        Err(_) => Err(Fail::from("refused")),
+    }
+}
+
+#[test]
+fn look_ups_go_by_segments(rt: HostRuntime) -> Result<(), Fail> {
+    let segments = sample(rt.alloc())?;
+    assert_eq!(rt; segments.as_slice().len(), 3);
+    for (a, want) in [
+        (0x1FFF, None),
+        (0x2000, Some(0)),
+        (0x200F, Some(15)),
+        (0x2010, Some(0)),
+        (0x2017, Some(7)),
+        (0x2018, None),
+        (0xEFFF_FFFF, Some(1)),
+        (0xF000_0000, None),
+    ] {
+        assert_eq!(rt; segments.byte_at(a), want, "at {a}");
+    }
+    assert_eq!(rt;
+        segments.fetch(0x2000).as_slice(),
+        [0, 1, 2, 3, 4, 5, 6, 7, 8, 9, 10, 11, 12, 13, 14].as_slice()
+    );
+    assert_eq!(rt; segments.fetch(0x200E).as_slice(), [14, 15].as_slice());
+    assert_eq!(rt; segments.fetch(0xEFFF_FFFF).as_slice(), [1].as_slice());
+    assert!(rt; segments.fetch(0x2010).is_empty());
+    assert!(rt; segments.fetch(0xFFFF_FFFF).is_empty());
+    for (a, n, write, execute, want) in [
+        (0x2000, 24, false, false, true),
+        (0x2000, 25, false, false, false),
+        (0x2000, 16, false, true, true),
+        (0x2000, 17, false, true, false),
+        (0x200F, 2, true, false, false),
+        (0x2010, 8, true, false, true),
+        (0x2010, 8, true, true, false),
+        (0x1FFF, 2, false, false, false),
+        (0xEFFF_FFFE, 2, false, true, true),
+        (0xEFFF_FFFE, 3, false, true, false),
+        (0xFFFF_FFFF, 2, false, false, false),
+        (0xFFFF_FFFF, 0, true, true, true),
+    ] {
+        assert_eq!(rt;
+            segments.allows(a, n, Perm::new(write, execute)),
+            want,
+            "{n} at {a}"
+        );
+    }
+    Ok(())
+}
+
+#[test]
+fn names_are_printable(rt: HostRuntime) -> Result<(), Fail> {
+    let alloc = rt.alloc();
+    for (text, want) in [
+        (b"malloc".as_slice(), true),
+        (b"!~", true),
+        (b"", false),
+        (b"a b", false),
+        (b"\x7F", false),
+    ] {
+        let name = Name::new(text.to_vec(alloc)?);
+        assert_eq!(rt; name.is_some(), want);
+        if let Some(name) = name {
+            assert_eq!(rt; name.as_slice(), text);
+        }
+    }
+    assert!(rt; Name::new(vec![in alloc; b'x'; 4096]?).is_some());
+    assert!(rt; Name::new(vec![in alloc; b'x'; 4097]?).is_none());
+    Ok(())
+}
+
+#[test]
+fn small_types_give_back_what_they_hold(rt: HostRuntime) -> Result<(), Fail> {
+    let alloc = rt.alloc();
+    let bytes = Bytes::from_vec([7, 8].to_vec(alloc)?);
+    assert_eq!(rt; bytes.len(), 2);
+    assert!(rt; !bytes.is_empty());
+    assert_eq!(rt; bytes.into_vec().as_slice(), [7, 8].as_slice());
+    let fills = Fills::from_vec(Vec::new(alloc));
+    assert!(rt; fills.as_slice().is_empty());
+    assert!(rt; fills.into_vec().is_empty());
+    assert_eq!(rt; half_at(&[1, 2, 3], 1), 0x0302);
+    assert_eq!(rt; word_at(&[1, 2, 3, 0x84, 5], 0), 0x8403_0201);
+    assert!(rt; Perm::new(true, true) == (Perm::READ | Perm::WRITE | Perm::EXECUTE));
+    assert_eq!(rt; Perm::new(false, true).bits(), 5);
+    Ok(())
+}
