@@ -82,6 +82,6 @@ mark_sets xs = ordered_set-alike marks.ghosts.cmp mark_cmp mark_order xs
 pub Contains-mark_set : (xs : List OpenMark) (m : OpenMark) → Contains xs m → Contains (ordered_set mark_cmp xs) m
 Contains-mark_set xs m held =
     let is : IsSetOf marks.ghosts.cmp marks.Laws.total-law (record { same = derived_exact }) xs (ordered_set marks.ghosts.cmp xs) =
-        ordered_set-is marks.ghosts.cmp marks.Laws.total-law (record { same = derived_exact }) xs in
+    ordered_set-is marks.ghosts.cmp marks.Laws.total-law (record { same = derived_exact }) xs in
     let P : List OpenMark → Type 0 = λ l. Contains l m in
     subst P (mark_sets xs) (is.kept m held)

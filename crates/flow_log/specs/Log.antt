@@ -82,7 +82,6 @@ abbrev pub mark_of_cause : {S C : Type 0} → List (Row S) → ℕ × C → Opti
 mark_of_cause rows noted = option_map (λ row. (row.location, noted.1)) (slice_get rows noted.0)
 
 module _ {S E C W : Type 0} (a : Analysis S E C W) where
-
   -- the marks of open locations: what holds of the locations themselves, what expansions gave, and the rows that were not expanded
   unfoldable pub marks_of : Log S E C W → List (ℕ × C)
   marks_of log =
