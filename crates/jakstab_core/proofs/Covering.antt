@@ -25,7 +25,6 @@ use Rattle.jakstab_core.specs.Headline.{HasLine, IsPrintedOpen, IsCovered, Cover
 use Rattle.jakstab_core.proofs.Lines.{has_edge_line, has_open_line}
 
 module _ (image : Image) where
-
   abbrev Known : MachineState → Type 0
   Known m = IsKnown (machine_of image) (λ (s : NoState) (state : MachineState). ⊤) (Keeps image) (image_log image BUDGET) m
 
@@ -37,7 +36,8 @@ module _ (image : Image) where
         in_log = closed.first_in_log;
         located = closed.first_located ∙ sym start.entry;
         describes = tt;
-        keeps = start_keeps image (image_log image BUDGET).writes m start }
+        keeps = start_keeps image (image_log image BUDGET).writes m start;
+      }
 
   follows : (m : MachineState) (states : List MachineState) → Start image m → IsRun (machine_of image) m states
       → Follows (machine_of image) Known (IsOpen (analysis_of image) (image_log image BUDGET)) (image_log image BUDGET).edges m states
@@ -47,10 +47,12 @@ module _ (image : Image) where
 
   printed_open : (a : ℕ) → IsOpen (analysis_of image) (image_log image BUDGET) a → IsPrintedOpen (recovered_text image) a
   unfolding recovered_text automaton_of
-  printed_open a (cause, held) =
-      (cause, has_open_line (automaton_of image (image_log image BUDGET)) (mark_of (a, cause))
-              (Contains-mark_set (map mark_of (marks_of (analysis_of image) (image_log image BUDGET))) (mark_of (a, cause))
-               (Contains-map mark_of (marks_of (analysis_of image) (image_log image BUDGET)) (a, cause) held)))
+  printed_open a (cause, held) = (
+    cause,
+    has_open_line (automaton_of image (image_log image BUDGET)) (mark_of (a, cause))
+        (Contains-mark_set (map mark_of (marks_of (analysis_of image) (image_log image BUDGET))) (mark_of (a, cause))
+        (Contains-map mark_of (marks_of (analysis_of image) (image_log image BUDGET)) (a, cause) held)),
+  )
 
   printed_edge : (e : Edge) → Contains (image_log image BUDGET).edges e → HasLine (recovered_text image) (edge_line e)
   unfolding recovered_text automaton_of

@@ -22,13 +22,12 @@ after_line : (before line : List ℕ) → EndsLine line → IsLineStart (before 
 after_line before line e = inr (before ++ e.front, ap (λ l. before ++ l) e.ends ∙ sym (append_assoc before e.front newline))
 
 module _ {X : Type 0} (f : X → List ℕ) (ends : (x : X) → EndsLine (f x)) where
-
   after_lines : (before : List ℕ) (xs : List X) → IsLineStart before → IsLineStart (before ++ flat_map f xs)
   after_lines before [] starts = let P : List ℕ → Type 0 = IsLineStart in subst P (sym (append_nil before)) starts
-      where
-        append_nil : (ys : List ℕ) → ys ++ [] ≡ ys
-        append_nil [] = refl
-        append_nil (y ∷ ys) = ap (λ zs. y ∷ zs) (append_nil ys)
+    where
+      append_nil : (ys : List ℕ) → ys ++ [] ≡ ys
+      append_nil [] = refl
+      append_nil (y ∷ ys) = ap (λ zs. y ∷ zs) (append_nil ys)
   after_lines before (x ∷ xs) starts =
       let P : List ℕ → Type 0 = IsLineStart in
       subst P (append_assoc before (f x) (flat_map f xs)) (after_lines (before ++ f x) xs (after_line before (f x) (ends x)))
@@ -36,14 +35,17 @@ module _ {X : Type 0} (f : X → List ℕ) (ends : (x : X) → EndsLine (f x)) w
   has_line : (before after : List ℕ) (xs : List X) (x : X) (text : List ℕ) → IsLineStart before → Contains xs x → text ≡ (before ++ flat_map f xs) ++ after → HasLine text (f x)
   has_line before after [] x text starts held e = absurd (Contains-none x held)
   has_line before after (y ∷ xs) x text starts held e =
-      elim (Contains-cases y x xs held)
-      [ inl same ↦ (let P : X → Type 0 = λ z. HasLine text (f z) in
-                    subst P same (record {
-                      before = before; after = flat_map f xs ++ after;
-                      whole = e ∙ ap (λ l. l ++ after) (sym (append_assoc before (f y) (flat_map f xs))) ∙ append_assoc (before ++ f y) (flat_map f xs) after;
-                      starts = starts }))
-      | inr later ↦ has_line (before ++ f y) after xs x text (after_line before (f y) (ends y)) later
-                    (e ∙ ap (λ l. l ++ after) (sym (append_assoc before (f y) (flat_map f xs)))) ]
+      elim (Contains-cases y x xs held) [
+        | inl same ↦ (let P : X → Type 0 = λ z. HasLine text (f z) in
+            subst P same (record {
+              before = before;
+              after = flat_map f xs ++ after;
+              whole = e ∙ ap (λ l. l ++ after) (sym (append_assoc before (f y) (flat_map f xs))) ∙ append_assoc (before ++ f y) (flat_map f xs) after;
+              starts = starts;
+            }))
+        | inr later ↦ has_line (before ++ f y) after xs x text (after_line before (f y) (ends y)) later
+            (e ∙ ap (λ l. l ++ after) (sym (append_assoc before (f y) (flat_map f xs))))
+      ]
 
 by_newline : (front : List ℕ) → EndsLine (front ++ newline)
 by_newline front = record { front = front; ends = refl }
@@ -61,7 +63,6 @@ unfolding open_line
 open_ends m = by_newline (codes "open " ++ hex8 m.at ++ space ++ cause_text m.cause)
 
 module _ (a : Automaton) where
-
   head : List ℕ
   head = header_line ++ entry_line a.entry
 

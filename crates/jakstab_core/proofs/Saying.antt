@@ -20,7 +20,8 @@ pub says_recovered : (status : Status) (c : Call) (bytes : List ℕ) → IsRead 
 says_recovered Done c bytes read r = record {
   recovered = record { bytes = bytes; read = read; form = r.form };
   gained = r.gained;
-  covers = text_covers (image_of bytes) }
+  covers = text_covers (image_of bytes);
+}
 says_recovered (ImageRefused n) c bytes read r = record { bytes = bytes; read = read; fault = r.fault; numbered = r.numbered; refused = r.refused; nothing = r.nothing }
 says_recovered WriteFault c bytes read r = record { recovered = record { bytes = bytes; read = read; form = r.form }; rose = r.rose; part = r.part }
 says_recovered Memory c bytes read r = record { name = read.name; accepted = read.accepted; nothing = r }

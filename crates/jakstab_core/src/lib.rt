@@ -5,6 +5,8 @@
 
 mod recover;
 mod status;
+#[cfg(test)]
+mod tests;
 mod top;
 mod words;
 

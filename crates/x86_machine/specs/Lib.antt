@@ -1,2 +1,3 @@
 pub mod StepBy
 pub mod Machine
+pub mod Laws

@@ -2,3 +2,7 @@
 // It stands on memory_map, x86_decoder, x86_semantics and flow_log.
 // Its contract: `specs/StepBy.antt` gives each outcome of a step under a choice, and `specs/Machine.antt` the machine of an image.
 #![tactic(auto)]
+
+mod laws;
+
+pub use laws::instructions_have_next_states;

@@ -16,10 +16,12 @@ returns-in-Ok g c =
       out_before = g.K.Sink.written c.args.out.now;
       out_after = g.K.Sink.written c.recover.new.out;
       write_faults_before = g.K.Sink.faults c.args.out.now;
-      write_faults_after = g.K.Sink.faults c.recover.new.out } in
+      write_faults_after = g.K.Sink.faults c.recover.new.out;
+    } in
     let whole : List ℕ → Type 0 = λ bytes. IsWhole (g.S.Shelf.contents c.args.shelf.now) c.in-Some.name.now IMAGE_LIMIT bytes in
     let read : IsRead call c.deref.result.now = record {
       name = c.in-Some.name.now;
       accepted = sym c.in-Some.ensures;
-      content = subst whole (sym c.deref.ensures.value) c.in-Ok.ensures.whole } in
+      content = subst whole (sym c.deref.ensures.value) c.in-Ok.ensures.whole;
+    } in
     says_recovered c.recover.result call c.deref.result.now read c.recover.ensures

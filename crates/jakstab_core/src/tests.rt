@@ -1,0 +1,228 @@
+ghost use Rattle.std.specs.Prelude.{◌<◌};
+
+use crate::{Input, Status, jakstab};
+use outside_io::{MemoryShelf, MemorySink, SureShelf, SureSink};
+use std::alloc::{AllocError, Global};
+use std::test::Fail;
+
+const ENTRY: [u8; 4] = [0x00, 0x80, 0x04, 0x08];
+
+// An ELF file of one segment at 08048000 with this code, which may be read and executed.
+fn file_with(alloc: Global, code: &[u8]) -> Result<Vec<u8>, AllocError> {
+    let size = [code.len().min(255) as u8, 0, 0, 0];
+    let mut file = Vec::new(alloc);
+    for part in [
+        b"\x7FELF\x01\x01\x01\0\0\0\0\0\0\0\0\0".as_slice(),
+        b"\x02\0\x03\0\x01\0\0\0",
+        &ENTRY,
+        b"\x34\0\0\0\0\0\0\0\0\0\0\0\x34\0\x20\0\x01\0\0\0\0\0\0\0",
+        b"\x01\0\0\0\x54\0\0\0",
+        &ENTRY,
+        &ENTRY,
+        &size,
+        &size,
+        b"\x05\0\0\0\x01\0\0\0",
+        code,
+    ] {
+        for b in part {
+            file.push(*b)?;
+        }
+    }
+    Ok(file)
+}
+
+fn words_of(alloc: Global, words: &[&str]) -> Result<Vec<String>, AllocError> {
+    let mut all = Vec::new(alloc);
+    for word in words {
+        all.push(String::from_str(alloc, word)?)?;
+    }
+    Ok(all)
+}
+
+fn sink(
+    alloc: Global,
+    per_write: usize,
+    fail_at: Vec<u64>,
+) -> Result<MemorySink, bit_words::NoMemory>
+    requires { 0 < per_write }
+{
+    MemorySink::new(alloc, 4096, per_write, fail_at)
+}
+
+const SELF_JUMP: &str = "\
+jakstab-automaton 1
+entry 08048000
+loc 08048000
+edge 08048000 08048000 EBFE jmp 08048000
+end 1 1 0
+";
+
+const JE_NEXT: &str = "\
+jakstab-automaton 1
+entry 08048000
+loc 08048000
+loc 08048002
+edge 08048000 08048002 7400 je 08048002
+end 2 1 0
+";
+
+// The jump overlaps the two `nop` and the `hlt`, and leads out of the image.
+const JUMP_INTO_NEXT: &str = "\
+jakstab-automaton 1
+entry 08048000
+loc 08048000
+loc 08048002
+loc 08048003
+loc 08048004
+loc 08048005
+loc 08F91097
+edge 08048000 08048002 7401 je 08048003
+edge 08048000 08048003 7401 je 08048003
+edge 08048002 08F91097 E99090F400 jmp 08F91097
+edge 08048003 08048004 90 nop
+edge 08048004 08048005 90 nop
+open 08F91097 bytes
+end 6 5 1
+";
+
+// A jump to the exit place: an edge, a location with a dash, and nothing open.
+const JUMP_TO_EXIT: &str = "\
+jakstab-automaton 1
+entry 08048000
+loc 08048000
+loc F0000000 -
+edge 08048000 F0000000 E9FB7FFBE7 jmp F0000000
+end 2 1 0
+";
+
+#[test]
+fn images_are_recovered_to_their_texts(rt: HostRuntime) -> Result<(), Fail> {
+    let alloc = rt.alloc();
+    let words = words_of(alloc, &["recover", "a"])?;
+    let rows: [(&[u8], &str); 4] = [
+        (b"\xEB\xFE", SELF_JUMP),
+        (b"\x74\x00\xF4", JE_NEXT),
+        (b"\x74\x01\xE9\x90\x90\xF4\x00", JUMP_INTO_NEXT),
+        (b"\xE9\xFB\x7F\xFB\xE7", JUMP_TO_EXIT),
+    ];
+    for (code, want) in rows {
+        let mut shelf = MemoryShelf::new(alloc, Vec::new(alloc));
+        shelf.put("a", file_with(alloc, code)?)?;
+        let mut out = sink(alloc, 4096, Vec::new(alloc))?;
+        let mut note = sink(alloc, 4096, Vec::new(alloc))?;
+        let status = jakstab(&rt, alloc, &words, &mut shelf, &mut out, &mut note);
+        assert_eq!(rt; status, Status::Done, "{want}");
+        assert_eq!(rt; out.written(), want.as_bytes(), "{want}");
+        assert!(rt; note.written().is_empty(), "{want}");
+    }
+    Ok(())
+}
+
+#[test]
+fn other_files_and_words_are_refused_and_write_nothing(rt: HostRuntime) -> Result<(), Fail> {
+    let alloc = rt.alloc();
+    let whole = file_with(alloc, b"\xEB\xFE")?;
+    let writable = {
+        let mut file = file_with(alloc, b"\xEB\xFE")?;
+        if let Some(flags) = file.get_mut(76) {
+            *flags = 7;
+        }
+        file
+    };
+    let rows: [(&[&str], &[u8], Status, &str); 8] = [
+        (
+            &["recover", "a"],
+            b"",
+            Status::ImageRefused(200),
+            "jakstab: image refused 200\n",
+        ),
+        (
+            &["recover", "a"],
+            &whole[..51.min(whole.len())],
+            Status::ImageRefused(1),
+            "jakstab: image refused 1\n",
+        ),
+        (
+            &["recover", "a"],
+            b"MZ",
+            Status::ImageRefused(300),
+            "jakstab: image refused 300\n",
+        ),
+        (
+            &["recover", "a"],
+            &writable,
+            Status::ImageRefused(300),
+            "jakstab: image refused 300\n",
+        ),
+        (
+            &["recover", "b"],
+            b"",
+            Status::ReadFault(Input::Image),
+            "jakstab: cannot read image\n",
+        ),
+        (&["recover"], b"", Status::Usage, "jakstab: usage\n"),
+        (&["recover", "-a"], b"", Status::Usage, "jakstab: usage\n"),
+        (
+            &["recover", "a", "a"],
+            b"",
+            Status::Usage,
+            "jakstab: usage\n",
+        ),
+    ];
+    for (words, content, want, line) in rows {
+        let mut shelf = MemoryShelf::new(alloc, Vec::new(alloc));
+        shelf.put("a", Vec::from_slice(alloc, content)?)?;
+        let mut out = sink(alloc, 4096, Vec::new(alloc))?;
+        let mut note = sink(alloc, 4096, Vec::new(alloc))?;
+        let words = words_of(alloc, words)?;
+        let status = jakstab(&rt, alloc, &words, &mut shelf, &mut out, &mut note);
+        assert_eq!(rt; status, want);
+        assert!(rt; out.written().is_empty(), "{line}");
+        assert_eq!(rt; note.written(), line.as_bytes());
+    }
+    Ok(())
+}
+
+// The text is 99 bytes: seven writes of at most 16.
+#[test]
+fn each_fault_of_the_outside_is_answered(rt: HostRuntime) -> Result<(), Fail> {
+    let alloc = rt.alloc();
+    let words = words_of(alloc, &["recover", "a"])?;
+    let rows: [(u64, u64, Status, usize); 9] = [
+        (1, 9, Status::ReadFault(Input::Image), 0),
+        (2, 1, Status::WriteFault, 0),
+        (2, 2, Status::WriteFault, 16),
+        (2, 3, Status::WriteFault, 32),
+        (2, 4, Status::WriteFault, 48),
+        (2, 5, Status::WriteFault, 64),
+        (2, 6, Status::WriteFault, 80),
+        (2, 7, Status::WriteFault, 96),
+        (2, 8, Status::Done, 99),
+    ];
+    for (fail_read, fail_write, want, held) in rows {
+        let mut shelf = MemoryShelf::new(alloc, vec![in alloc; fail_read]?);
+        shelf.put("a", file_with(alloc, b"\xEB\xFE")?)?;
+        let mut out = sink(alloc, 16, vec![in alloc; fail_write]?)?;
+        let mut note = sink(alloc, 4096, vec![in alloc; 2]?)?;
+        let status = jakstab(&rt, alloc, &words, &mut shelf, &mut out, &mut note);
+        assert_eq!(rt; status, want, "write {fail_write}");
+        assert_eq!(rt; out.written().len(), held, "write {fail_write}");
+        assert!(rt;
+            SELF_JUMP.as_bytes().starts_with(out.written()),
+            "write {fail_write}"
+        );
+    }
+    Ok(())
+}
+
+#[test]
+fn what_never_fails_is_read_and_written(rt: HostRuntime) -> Result<(), Fail> {
+    let alloc = rt.alloc();
+    let words = words_of(alloc, &["recover", "a"])?;
+    let mut shelf = SureShelf::new(alloc);
+    shelf.put("a", file_with(alloc, b"\xEB\xFE")?)?;
+    let status = jakstab(&rt, alloc, &words, &mut shelf, &mut SureSink, &mut SureSink);
+    assert_eq!(rt; status, Status::Done);
+    assert_eq!(rt; status.number(), 0);
+    Ok(())
+}
