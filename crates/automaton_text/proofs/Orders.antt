@@ -8,7 +8,7 @@ use Rattle.std.proofs.lemmas.Map.Lookups.{exact_unsigned}
 use Rattle.flow_log.specs.declared.cause.Cause.{Cause}
 use Rattle.flow_log.specs.declared.cause.Cause.TheVariants.{Bytes, NoStub, Target, Store, Stack, Block, Code, Budget}
 use Rattle.flow_log.specs.contracts.cause.CauseOrd.TheImpl as causes
-use Rattle.flow_log.specs.Ordered.{ordered_set, IsExact}
+use Rattle.flow_log.specs.Ordered.{ordered_set}
 use Rattle.flow_log.specs.Orders.{cause_rank}
 use Rattle.flow_log.proofs.Ordering.{ordered_set-is, IsSetOf}
 use Rattle.flow_log.proofs.Orders.{ordered_set-alike}

@@ -1,12 +1,11 @@
 -- The code's steps on a log are those of the definition.
-use Rattle.std.proofs.Common.{◌≡◌, ℕ, zero, suc, ◌+◌, ◌-◌, ◌<◌, Bool, true, false, List, [], ◌∷◌, ◌++◌, ◌||◌, length, map, cond, Option, Some, None, refl, sym, ◌∙◌, ap, arith, ◌==◌}
-use Rattle.std.specs.Prelude.{fold, filter, slice_get, option_map, nat_lt, nat_eq}
+use Rattle.std.proofs.Common.{◌≡◌, ℕ, zero, suc, ◌+◌, Bool, true, false, List, [], ◌∷◌, ◌++◌, ◌||◌, length, map, cond, Option, Some, None, refl, sym, ◌∙◌, ap, ◌==◌}
+use Rattle.std.specs.Prelude.{filter, slice_get, option_map, nat_lt}
 use Rattle.std.specs.List.{list_any}
 use Rattle.memory_map.specs.Image.{Image, name_at}
 use Rattle.flow_log.specs.declared.cause.Cause.{Cause}
-use Rattle.flow_log.specs.declared.edge.Edge.{Edge}
 use Rattle.flow_log.specs.declared.edge.Label.TheVariants.{Code}
-use Rattle.flow_log.specs.Log.{Row, states_at, row_after, with_row, with_pair, with_pairs, with_notes, with_expansion, at_row, explored, log_of, first_log}
+use Rattle.flow_log.specs.Log.{Row, states_at, with_row, with_pair, with_pairs, with_notes, with_expansion, at_row, explored, log_of, first_log}
 use Rattle.x86_machine.specs.Machine.{label_by}
 use Rattle.flow_worklist.specs.Post.{NoState, RowExpansion, image_bytes, post, nothing, caused}
 use Rattle.flow_worklist.specs.Posted.{leads_to}
@@ -31,7 +30,6 @@ append_nil [] = refl
 append_nil (x ∷ xs) = ap (λ ys. x ∷ ys) (append_nil xs)
 
 module _ (image : Image) (budget : ℕ) where
-
   rows_are : (number to : ℕ) (rows : List (Row NoState)) → with_row (analysis_of image) budget number to tt rows ≡ rows_added budget number to rows
   unfolding with_row
   rows_are number to rows = ap (λ b. cond b rows (rows ++ row_with (Some number) to (nat_lt (length rows) budget) ∷ [])) (any_at to rows)
@@ -61,7 +59,7 @@ module _ (image : Image) (budget : ℕ) where
 
   expansion_by : (number : ℕ) (row : Row NoState) (x : RowExpansion) (log : ImageLog) → post image row.location ≡ x
       → with_expansion (analysis_of image) budget number row log
-        ≡ with_pairs (analysis_of image) budget number row x.next (with_notes (analysis_of image) budget number x log)
+      ≡ with_pairs (analysis_of image) budget number row x.next (with_notes (analysis_of image) budget number x log)
   unfolding with_expansion
   expansion_by number row x log is =
       ap (λ y. with_pairs (analysis_of image) budget number row y.next (with_notes (analysis_of image) budget number y log)) is
@@ -82,8 +80,8 @@ module _ (image : Image) (budget : ℕ) where
       → pairs_added budget number row.location bytes targets log ≡ with_expansion (analysis_of image) budget number row log
   expands_pairs number row targets bytes log is labelled =
       sym (expansion_by number row (leads_to targets) log is
-           ∙ ap (λ l. with_pairs (analysis_of image) budget number row (map (λ target. (target, tt)) targets) l) (no_writes log (log.causes ++ []) (sym (append_nil log.causes)))
-           ∙ pairs_are number row bytes targets log labelled)
+      ∙ ap (λ l. with_pairs (analysis_of image) budget number row (map (λ target. (target, tt)) targets) l) (no_writes log (log.causes ++ []) (sym (append_nil log.causes)))
+      ∙ pairs_are number row bytes targets log labelled)
 
   pub expands_at : (number at : ℕ) (targets bytes ts bs : List ℕ) (log : ImageLog) → ts ≡ targets → bs ≡ bytes → post image at ≡ leads_to targets
       → label_by (name_at image at) (image_bytes image at) ≡ Code (record { items = bytes }) → (row : Row NoState) → row.location ≡ at
@@ -93,7 +91,7 @@ module _ (image : Image) (budget : ℕ) where
       ∙ ap (λ l. pairs_added budget number at l targets log) same_bytes
       ∙ ap (λ a. pairs_added budget number a bytes targets log) (sym located)
       ∙ expands_pairs number row targets bytes log (ap (post image) located ∙ is)
-        (ap (λ a. label_by (name_at image a) (image_bytes image a)) located ∙ labelled)
+      (ap (λ a. label_by (name_at image a) (image_bytes image a)) located ∙ labelled)
 
   -- one turn of the exploration
   pub explored_one : (fuel number : ℕ) (row : Row NoState) (log after : ImageLog) → slice_get log.rows number ≡ Some row
@@ -123,15 +121,15 @@ module _ (image : Image) (budget : ℕ) where
 pub row_found : (rows : List (Row NoState)) (number at : ℕ) → Some at ≡ option_map (λ row. row.location) (slice_get rows number)
     → (row : Row NoState) × (slice_get rows number ≡ Some row) × (row.location ≡ at)
 row_found rows number at e = found (slice_get rows number) refl e
-    where
-      found : (o : Option (Row NoState)) → slice_get rows number ≡ o → Some at ≡ option_map (λ row. row.location) o
-          → (row : Row NoState) × (slice_get rows number ≡ Some row) × (row.location ≡ at)
-      found None is e' = cc
-      found (Some row) is e' = (row, is, cc)
+  where
+    found : (o : Option (Row NoState)) → slice_get rows number ≡ o → Some at ≡ option_map (λ row. row.location) o
+        → (row : Row NoState) × (slice_get rows number ≡ Some row) × (row.location ≡ at)
+    found None is e' = cc
+    found (Some row) is e' = (row, is, cc)
 
 pub none_found : (rows : List (Row NoState)) (number : ℕ) → None ≡ option_map (λ row. row.location) (slice_get rows number) → slice_get rows number ≡ None
 none_found rows number e = found (slice_get rows number) refl e
-    where
-      found : (o : Option (Row NoState)) → slice_get rows number ≡ o → None ≡ option_map (λ row. row.location) o → slice_get rows number ≡ None
-      found None is e' = is
-      found (Some row) is e' = cc
+  where
+    found : (o : Option (Row NoState)) → slice_get rows number ≡ o → None ≡ option_map (λ row. row.location) o → slice_get rows number ≡ None
+    found None is e' = is
+    found (Some row) is e' = cc

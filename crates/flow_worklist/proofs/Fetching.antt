@@ -1,6 +1,5 @@
 -- Where two look-ups agree on the bytes of an instruction, they fetch the same instruction.
-use Rattle.std.proofs.Common.{◌≡◌, ℕ, zero, suc, ◌+◌, ◌<◌, ◌≤◌, ◌⊎◌, Bool, true, false, List, [], ◌∷◌, ◌++◌, length, take, ◌||◌, Option, Some, None, refl, sym, ◌∙◌, ap, subst, inl, inr, arith}
-use Rattle.std.specs.Prelude.{Contains}
+use Rattle.std.proofs.Common.{◌≡◌, ℕ, zero, suc, ◌+◌, ◌<◌, ◌≤◌, Bool, true, false, List, ◌∷◌, length, take, ◌||◌, Option, Some, None, refl, sym, ◌∙◌, ap, subst, arith}
 use Rattle.std.specs.List.{list_any, range_with_len}
 use Rattle.memory_map.specs.Range.{run_of, cons_or_end}
 use Rattle.x86_syntax.specs.declared.instr.Instr.{Instr}
@@ -34,7 +33,7 @@ run_agrees look other (suc count) (suc n) a agree within =
     (let at : ℕ → Type 0 = λ k. other k ≡ look k in let e : a + 0 ≡ a = omega arith in subst at e (agree 0 (omega arith)))
     within
     (λ rest. run_agrees look other count n (a + 1)
-        (λ i less. let at : ℕ → Type 0 = λ k. other k ≡ look k in let e : a + suc i ≡ (a + 1) + i = omega arith in subst at e (agree (suc i) (omega arith))) rest)
+    (λ i less. let at : ℕ → Type 0 = λ k. other k ≡ look k in let e : a + suc i ≡ (a + 1) + i = omega arith in subst at e (agree (suc i) (omega arith))) rest)
 
 -- the same instruction stands at the front
 pub decoded_agrees : (xs ys : List ℕ) (i : Instr) (n : ℕ) → decoded ys ≡ Some (i, n) → (n ≤ length ys → AgreeFirst n xs ys) → (decoded xs ≡ Some (i, n)) × (take n xs ≡ take n ys)
@@ -68,10 +67,10 @@ one_passes test a (suc n) zero less passes =
 one_passes test a (suc n) (suc i) less passes =
     let e : a + suc i ≡ (a + 1) + i = omega arith in
     or_later (test a) (list_any test (range_with_len (a + 1) n)) (one_passes test (a + 1) n i (omega arith) (sym (ap test e) ∙ passes))
-    where
-      or_later : (x y : Bool) → y ≡ true → (x || y) ≡ true
-      or_later true y h = refl
-      or_later false y h = h
+  where
+    or_later : (x y : Bool) → y ≡ true → (x || y) ≡ true
+    or_later true y h = refl
+    or_later false y h = h
 
 -- and where none does it is false
 pub none_of_row : (test : ℕ → Bool) (a n : ℕ) → ((i : ℕ) → i < n → test (a + i) ≡ false) → list_any test (range_with_len a n) ≡ false

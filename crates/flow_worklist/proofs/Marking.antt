@@ -1,6 +1,6 @@
 -- Lists of marks, as they are pushed.
-use Rattle.std.proofs.Common.{◌≡◌, ℕ, ◌+◌, ◌<◌, List, [], ◌∷◌, ◌++◌, length, take, get_or, map, Option, Some, None, refl, sym, ◌∙◌, ap, append_assoc}
-use Rattle.std.specs.Prelude.{filter_map, option_map, option_to_list, slice_get, unwrap_or}
+use Rattle.std.proofs.Common.{◌≡◌, ℕ, ◌+◌, ◌<◌, List, [], ◌∷◌, ◌++◌, length, take, get_or, map, Option, Some, None, refl, sym, ◌∙◌, ap}
+use Rattle.std.specs.Prelude.{filter_map, option_map, option_to_list, unwrap_or}
 use Rattle.std.specs.List.{cons_option}
 use Rattle.std.proofs.lemmas.List.{take_more}
 use Rattle.std.proofs.lemmas.List.Elements.{filter_map-append}
@@ -41,10 +41,10 @@ same_automaton e e' l l' d d' m m' p q r s =
 
 one_mapped : {X Y Z : Type 0} (h : X → Option Y) (f : Y → Z) (x : X) → map f (filter_map h (x ∷ [])) ≡ option_to_list (option_map f (h x))
 one_mapped {Y = Y} {Z = Z} h f x = by_answer (h x)
-    where
-      by_answer : (o : Option Y) → map f (cons_option o []) ≡ option_to_list (option_map f o)
-      by_answer None = refl
-      by_answer (Some y) = refl
+  where
+    by_answer : (o : Option Y) → map f (cons_option o []) ≡ option_to_list (option_map f o)
+    by_answer None = refl
+    by_answer (Some y) = refl
 
 -- one more element of a list, filtered and mapped
 pub filtered_more : {X Y Z : Type 0} (h : X → Option Y) (f : Y → Z) (xs : List X) (i : ℕ) (d : X) → i < length xs

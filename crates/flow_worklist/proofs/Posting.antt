@@ -1,10 +1,9 @@
 -- The expansion of a row, and the fixed causes of an address, case by case.
-use Rattle.std.proofs.Common.{◌≡◌, ℕ, Bool, true, false, List, [], ◌∷◌, take, map, cond, Option, Some, None, refl, sym, ◌∙◌, ap, ◌==◌}
+use Rattle.std.proofs.Common.{◌≡◌, ℕ, Bool, List, [], ◌∷◌, take, cond, Some, None, refl, ◌∙◌, ap, ◌==◌}
 use Rattle.std.proofs.lemmas.Bool.{eq-eqb, ne_eqb}
 use Rattle.memory_map.specs.Image.{Image, EXIT_PLACE, name_at}
 use Rattle.x86_syntax.specs.declared.instr.Instr.{Instr}
 use Rattle.x86_syntax.specs.Decodes.{decoded}
-use Rattle.flow_log.specs.declared.cause.Cause.{Cause}
 use Rattle.flow_log.specs.declared.cause.Cause.TheVariants as causes
 use Rattle.flow_log.specs.declared.edge.Label.TheVariants.{Code}
 use Rattle.x86_machine.specs.Machine.{label_by, instr_bytes}
@@ -12,7 +11,6 @@ use Rattle.flow_worklist.specs.Post.{Written, image_bytes, targets, post, nothin
 use Rattle.flow_worklist.specs.Posted.{leads_to}
 
 module _ (image : Image) (a : ℕ) where
-
   other : post image a ≡ cond (a == EXIT_PLACE) nothing (at_name (name_at image a) (at_instr (decoded (image_bytes image a)) a))
   unfolding post
   other = refl
@@ -38,7 +36,6 @@ module _ (image : Image) (a : ℕ) where
       ap (λ o. label_by o (image_bytes image a)) unnamed ∙ ap (λ d. Code (record { items = instr_bytes d (image_bytes image a) })) found
 
   module _ (writes : List Written) where
-
     others : fixed_causes image writes a ≡ cond (a == EXIT_PLACE) [] (fixed_at_name (name_at image a) (fixed_at_instr (decoded (image_bytes image a)) image writes a))
     unfolding fixed_causes
     others = refl

@@ -1,5 +1,5 @@
 -- The edges of a log of an image are labelled by spellings, and the log has a row.
-use Rattle.std.proofs.Common.{◌≡◌, ℕ, zero, suc, ◌+◌, ◌<◌, ◌⊎◌, Bool, true, false, List, [], ◌∷◌, ◌++◌, length, take, map, cond, Option, Some, None, refl, sym, ◌∙◌, ap, subst, inl, inr, ◌==◌}
+use Rattle.std.proofs.Common.{◌≡◌, ℕ, zero, suc, ◌+◌, ◌<◌, Bool, true, false, List, [], ◌∷◌, length, Option, Some, None, refl, sym, ap, subst, ◌==◌}
 use Rattle.std.specs.Prelude.{Contains, All, slice_get}
 use Rattle.std.proofs.lemmas.List.Elements.{All-push, All-nil, All-weaker, All-contains, All-contains_itself}
 use Rattle.std.proofs.lemmas.Option.{slice_get_within}
@@ -10,9 +10,8 @@ use Rattle.x86_syntax.specs.Decodes.{Decodes, decoded}
 use Rattle.x86_syntax.proofs.DecodesLemmas.{decoded_finds}
 use Rattle.flow_log.specs.declared.edge.Edge.{Edge}
 use Rattle.flow_log.specs.declared.edge.Label.{Label}
-use Rattle.flow_log.specs.declared.edge.Label.TheVariants.{Code}
 use Rattle.flow_log.specs.contracts.edge.EdgeOrd.TheImpl as edges
-use Rattle.flow_log.specs.Log.{Row, Log, with_pair, with_pairs, with_notes, with_expansion, at_row, explored, log_of, first_log, row_after}
+use Rattle.flow_log.specs.Log.{Row, with_pair, with_pairs, with_notes, with_expansion, at_row, explored, log_of, first_log, row_after}
 use Rattle.flow_log.specs.Ordered.{ordered_set}
 use Rattle.flow_log.specs.Orders.{edge_cmp}
 use Rattle.flow_log.proofs.Members.{Contains-here, Contains-later, Contains-none}
@@ -21,13 +20,11 @@ use Rattle.flow_log.proofs.Ordering.{ordered_set-is, IsSetOf}
 use Rattle.flow_log.proofs.Orders.{derived_exact, edge_sets}
 use Rattle.automaton_text.specs.Text.{IsSpelled, AreSpelled}
 use Rattle.x86_machine.specs.Machine.{label_by}
-use Rattle.flow_worklist.specs.Post.{NoState, image_bytes, post, nothing, caused}
-use Rattle.flow_worklist.specs.Posted.{leads_to}
+use Rattle.flow_worklist.specs.Post.{NoState, image_bytes, post}
 use Rattle.flow_worklist.specs.Analysis.{ImageLog, analysis_of, image_log, automaton_of, edge_from}
 use Rattle.flow_worklist.proofs.Posting.{post-exit, post-name, post-none, label-instr}
 
 module _ (image : Image) where
-
   -- no pair where the expansion has none
   abbrev Spelled : Edge → Type 0
   Spelled e = IsSpelled e.label
@@ -64,11 +61,12 @@ module _ (image : Image) where
   spelled_explored budget zero number log all = all
   spelled_explored budget (suc fuel) number log all =
       elim (slice_get log.rows number)
-      as (λ found. All Spelled (at_row (analysis_of image) budget found log (λ row. explored (analysis_of image) budget fuel (number + 1) (with_expansion (analysis_of image) budget number row log))).edges)
-      [ None ↦ all
-      | Some row ↦ spelled_explored budget fuel (number + 1) _
-          (spelled_pairs budget number row (post image row.location).next (with_notes (analysis_of image) budget number (post image row.location) log)
-           (λ pair held. spelled_at row.location pair (row.location == EXIT_PLACE) refl held) all) ]
+      as (λ found. All Spelled (at_row (analysis_of image) budget found log (λ row. explored (analysis_of image) budget fuel (number + 1) (with_expansion (analysis_of image) budget number row log))).edges) [
+        | None ↦ all
+        | Some row ↦ spelled_explored budget fuel (number + 1) _
+            (spelled_pairs budget number row (post image row.location).next (with_notes (analysis_of image) budget number (post image row.location) log)
+            (λ pair held. spelled_at row.location pair (row.location == EXIT_PLACE) refl held) all)
+      ]
 
   log_spelled : (budget : ℕ) → All Spelled (image_log image budget).edges
   unfolding log_of
@@ -85,7 +83,7 @@ module _ (image : Image) where
   in_log : (xs : List Edge) (e : Edge) → Contains (ordered_set edge_cmp xs) e → Contains xs e
   in_log xs e held =
       let is : IsSetOf edges.ghosts.cmp edges.Laws.total-law (record { same = derived_exact }) xs (ordered_set edges.ghosts.cmp xs) =
-          ordered_set-is edges.ghosts.cmp edges.Laws.total-law (record { same = derived_exact }) xs in
+      ordered_set-is edges.ghosts.cmp edges.Laws.total-law (record { same = derived_exact }) xs in
       let P : List Edge → Type 0 = λ l. Contains l e in
       is.only e (subst P (sym (edge_sets xs)) held)
 

@@ -1,10 +1,9 @@
 -- The analysis of an image is sound for the machine that runs it.
-use Rattle.std.proofs.Common.{◌≡◌, ℕ, ◌+◌, ◌%◌, ◌<◌, ◌≤◌, ◌⊎◌, Bool, true, false, List, [], ◌∷◌, ◌++◌, length, take, map, cond, Option, Some, None, refl, sym, ◌∙◌, ap, subst, inl, inr, arith, ◌==◌}
+use Rattle.std.proofs.Common.{◌≡◌, ℕ, ◌+◌, Bool, true, false, List, [], ◌∷◌, take, map, cond, Option, Some, None, refl, sym, ◌∙◌, ap, subst, ◌==◌}
 use Rattle.std.specs.Prelude.{Contains, Result, Ok, Err, MatchBool, ⊤}
-use Rattle.std.specs.List.{list_any, range_with_len}
 use Rattle.memory_map.specs.declared.choice.Choice.{Choice}
 use Rattle.memory_map.specs.declared.fault.FaultKind.{FaultKind}
-use Rattle.memory_map.specs.Range.{Range, code_at, run_of}
+use Rattle.memory_map.specs.Range.{code_at}
 use Rattle.memory_map.specs.Image.{Image, EXIT_PLACE, name_at}
 use Rattle.memory_map.specs.State.{MachineState, memory}
 use Rattle.x86_syntax.specs.declared.instr.Instr.{Instr}
@@ -14,18 +13,16 @@ use Rattle.x86_syntax.specs.declared.instr.Operand.{Operand}
 use Rattle.x86_syntax.specs.Decodes.{decoded}
 use Rattle.x86_semantics.specs.Condition.{is_met}
 use Rattle.x86_semantics.specs.Does.{does, does_named, at_address, after, branch_target}
-use Rattle.x86_machine.specs.StepBy.{StepBy, AtName, AtInstr, NoInstr, Outcome, stepped, exited, no_stub, not_listed, faulted, fetched, outcome_of, LONGEST}
-use Rattle.x86_machine.specs.Machine.{machine_of, edge_of, label_at, label_by, instr_bytes, Steps}
+use Rattle.x86_machine.specs.StepBy.{StepBy, AtName, AtInstr, stepped, exited, fetched, outcome_of, LONGEST}
+use Rattle.x86_machine.specs.Machine.{machine_of, edge_of, label_at, label_by, instr_bytes}
 use Rattle.flow_log.specs.declared.cause.Cause.{Cause}
 use Rattle.flow_log.specs.declared.cause.Cause.TheVariants as causes
-use Rattle.flow_log.specs.declared.edge.Edge.{Edge}
-use Rattle.flow_log.specs.declared.edge.Label.{Label}
-use Rattle.flow_log.specs.declared.edge.Label.TheVariants.{Code, Import}
+use Rattle.flow_log.specs.declared.edge.Label.TheVariants.{Code}
 use Rattle.flow_log.specs.Sound.{Sound, IsFound}
 use Rattle.flow_log.proofs.Members.{Contains-here, Contains-later, Contains-map}
-use Rattle.flow_worklist.specs.Post.{NoState, Written, is_touched, meets_touched, image_bytes, targets, targets_named, target_address, next_address, post, at_instr, at_name, nothing, fixed_causes, fixed_at_name, fixed_at_instr}
+use Rattle.flow_worklist.specs.Post.{NoState, Written, is_touched, meets_touched, image_bytes, targets, targets_named, post, at_instr, at_name, nothing, fixed_causes, fixed_at_name, fixed_at_instr}
 use Rattle.flow_worklist.specs.Analysis.{analysis_of, edge_from, Keeps}
-use Rattle.flow_worklist.proofs.Fetching.{AgreeFirst, run_agrees, decoded_agrees, none_passes}
+use Rattle.flow_worklist.proofs.Fetching.{run_agrees, decoded_agrees, none_passes}
 
 -- an instruction leads to one of its targets, and leaves memory as it was
 record IsLanded (m next : MachineState) (tos : List ℕ) : Type 0 where
@@ -90,7 +87,6 @@ done_of (Err kind) next e = cc
 
 module _ (image : Image) (ws : List Written) (m next : MachineState) (keeps : Keeps image ws m)
     (none : (c : Cause) → Contains (fixed_causes image ws m.eip) c → ⊥) where
-
   -- an instruction of the image at EIP, none of whose bytes is touched
   record HasInstr : Type 0 where
     instr : Instr
@@ -112,8 +108,8 @@ module _ (image : Image) (ws : List Written) (m next : MachineState) (keeps : Ke
   unfolding fixed_causes
   has_instr runs unnamed =
       let listed : fixed_causes image ws m.eip ≡ fixed_at_instr (decoded (image_bytes image m.eip)) image ws m.eip =
-          ap (λ b. cond b [] (fixed_at_name (name_at image m.eip) (fixed_at_instr (decoded (image_bytes image m.eip)) image ws m.eip))) runs
-          ∙ ap (λ o. fixed_at_name o (fixed_at_instr (decoded (image_bytes image m.eip)) image ws m.eip)) unnamed in
+      ap (λ b. cond b [] (fixed_at_name (name_at image m.eip) (fixed_at_instr (decoded (image_bytes image m.eip)) image ws m.eip))) runs
+      ∙ ap (λ o. fixed_at_name o (fixed_at_instr (decoded (image_bytes image m.eip)) image ws m.eip)) unnamed in
       let No : List Cause → Type 0 = λ cs. (c : Cause) → Contains cs c → ⊥ in
       instr_of (decoded (image_bytes image m.eip)) refl (subst No listed none)
 
@@ -122,7 +118,7 @@ module _ (image : Image) (ws : List Written) (m next : MachineState) (keeps : Ke
   unfolding fetched image_bytes meets_touched
   fetches h = decoded_agrees (fetched m) (image_bytes image m.eip) h.instr h.size h.found
       (λ within. run_agrees (code_at image.segments) (code_at (memory m)) LONGEST h.size m.eip
-          (λ i less. keeps.code (m.eip + i) (none_passes (is_touched image ws) m.eip h.size i h.untouched less)) within)
+      (λ i less. keeps.code (m.eip + i) (none_passes (is_touched image ws) m.eip h.size i h.untouched less)) within)
 
   -- a step that leads somewhere does the image's instruction
   record IsDoing (choice : Choice) : Type 0 where
@@ -140,16 +136,19 @@ module _ (image : Image) (ws : List Written) (m next : MachineState) (keeps : Ke
       let h : HasInstr = has_instr is.runs is.unnamed in
       let there = fetches h in
       let at : AtInstr (Some (h.instr, h.size)) choice m (fetched m) (stepped next) =
-          (let P : Option (Instr × ℕ) → Type 0 = λ d. AtInstr d choice m (fetched m) (stepped next) in subst P there.0 is.at) in
+      (let P : Option (Instr × ℕ) → Type 0 = λ d. AtInstr d choice m (fetched m) (stepped next) in subst P there.0 is.at) in
       let label : (bytes : List ℕ) → decoded bytes ≡ Some (h.instr, h.size) → label_by (name_at image m.eip) bytes ≡ Code (record { items = take h.size bytes }) =
-          λ bytes found. ap (λ o. label_by o bytes) is.unnamed ∙ ap (λ d. Code (record { items = instr_bytes d bytes })) found in
+      λ bytes found. ap (λ o. label_by o bytes) is.unnamed ∙ ap (λ d. Code (record { items = instr_bytes d bytes })) found in
       record {
-        instr = h.instr; size = h.size; found = h.found;
+        instr = h.instr;
+        size = h.size;
+        found = h.found;
         same_label = label (image_bytes image m.eip) h.found ∙ ap (λ items. Code (record { items = items })) (sym there.1) ∙ sym (label (fetched m) there.0);
         next_pairs = ap (λ b. (cond b nothing (at_name (name_at image m.eip) (at_instr (decoded (image_bytes image m.eip)) m.eip))).next) is.runs
             ∙ ap (λ o. (at_name o (at_instr (decoded (image_bytes image m.eip)) m.eip)).next) is.unnamed
             ∙ ap (λ d. (at_instr d m.eip).next) h.found;
-        lands = landed h.instr h.size choice m next (done_of (does h.instr h.size choice m) next at) }
+        lands = landed h.instr h.size choice m next (done_of (does h.instr h.size choice m) next at);
+      }
 
   found : (choice : Choice) → IsDoing choice → IsFound (analysis_of image) (machine_of image) (λ s m. ⊤) tt m next
   unfolding edge_from edge_of
@@ -159,16 +158,20 @@ module _ (image : Image) (ws : List Written) (m next : MachineState) (keeps : Ke
         state = tt;
         pair = subst Pairs (sym d.next_pairs) (Contains-map (λ target. (target, tt)) (targets d.instr m.eip d.size) next.eip d.lands.target);
         describes = tt;
-        edge = ap (λ label. record { from = m.eip; to = next.eip; label = label }) d.same_label }
+        edge = ap (λ label. record { from = m.eip; to = next.eip; label = label }) d.same_label;
+      }
 
   kept : (choice : Choice) → IsDoing choice → Keeps image ws next
   kept choice d =
-      record { code = λ a untouched.
-        ap (λ rs. code_at rs a) (ap (λ w. w ∷ next.ranges) d.lands.stack ∙ ap (λ rs. m.stack ∷ rs) d.lands.ranges) ∙ keeps.code a untouched }
+      record {
+        code = λ a untouched.
+            ap (λ rs. code_at rs a) (ap (λ w. w ∷ next.ranges) d.lands.stack ∙ ap (λ rs. m.stack ∷ rs) d.lands.ranges) ∙ keeps.code a untouched;
+      }
 
 pub analysis_sound : (image : Image) → Sound (analysis_of image) (machine_of image) (λ s m. ⊤) (Keeps image)
 analysis_sound image = record {
   covers = λ t s m covers d. tt;
   widen = λ seen s m d. tt;
   step = λ ws s m next d keeps none causes steps. found image ws m next keeps none steps.0 (doing image ws m next keeps none steps.0 steps.1);
-  writes = λ ws s m next d keeps none causes written steps. kept image ws m next keeps none steps.0 (doing image ws m next keeps none steps.0 steps.1) }
+  writes = λ ws s m next d keeps none causes written steps. kept image ws m next keeps none steps.0 (doing image ws m next keeps none steps.0 steps.1);
+}

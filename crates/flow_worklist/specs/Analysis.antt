@@ -37,7 +37,8 @@ analysis_of image = record {
   covers = λ t s. true;
   widen = λ seen s. s;
   fixed = fixed_causes image;
-  spent = causes.Budget }
+  spent = causes.Budget;
+}
 
 abbrev pub image_log : Image → ℕ → ImageLog
 image_log image budget = log_of (analysis_of image) budget
@@ -58,7 +59,8 @@ automaton_of image log = record {
   entry = entry_of log.rows;
   locations = map (location_of image) (ordered_set nat_cmp (map (λ row. row.location) log.rows));
   edges = ordered_set edge_cmp log.edges;
-  marks = ordered_set mark_cmp (map mark_of (marks_of (analysis_of image) log)) }
+  marks = ordered_set mark_cmp (map mark_of (marks_of (analysis_of image) log));
+}
 
 -- outside the written ranges and the unset bytes, the machine may execute just what the image's segments have
 pub record Keeps (image : Image) (writes : List Written) (m : MachineState) : Type 0 where

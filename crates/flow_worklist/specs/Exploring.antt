@@ -20,7 +20,8 @@ pair_added budget number edge log = record {
   rows = rows_added budget number edge.to log.rows;
   edges = log.edges ++ edge ∷ [];
   causes = log.causes;
-  writes = log.writes }
+  writes = log.writes;
+}
 
 abbrev pub code_edge : ℕ → List ℕ → ℕ → Edge
 code_edge from bytes to = record { from = from; to = to; label = Code (record { items = bytes }) }

@@ -1,8 +1,7 @@
 -- Where a row leads: the next pairs of its location, and the causes that leave it open.
-use Rattle.std.specs.Prelude.{ℕ, ◌+◌, ◌%◌, ◌^◌, Bool, List, [], ◌∷◌, map, Option, None, Some, nat_le, nat_lt, ◌&&◌, ◌||◌, ◌==◌, if◌then◌else◌}
+use Rattle.std.specs.Prelude.{ℕ, ◌+◌, ◌%◌, ◌^◌, Bool, List, [], ◌∷◌, map, Option, None, Some, ◌||◌, ◌==◌, if◌then◌else◌}
 use Rattle.std.specs.List.{list_any, range_with_len}
 use Rattle.std.specs.Int.{cast_unsigned, w32}
-use Rattle.memory_map.specs.declared.span.Span.{Span}
 use Rattle.memory_map.specs.Range.{code_at, run_of}
 use Rattle.memory_map.specs.Image.{Image, is_in_span, EXIT_PLACE, name_at}
 use Rattle.x86_syntax.specs.declared.instr.Instr.{Instr}

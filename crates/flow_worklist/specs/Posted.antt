@@ -1,11 +1,11 @@
 -- What the code's answer on a row says of its expansion.
-use Rattle.std.specs.Prelude.{ℕ, ◌≡◌, List, [], ◌∷◌, map}
+use Rattle.std.specs.Prelude.{ℕ, ◌≡◌, List, [], map}
 use Rattle.memory_map.specs.Image.{Image, name_at}
 use Rattle.flow_log.specs.declared.edge.Label.TheVariants.{Code}
 use Rattle.x86_machine.specs.Machine.{label_by}
 use Rattle.flow_worklist.specs.declared.post.Post.{Post}
 use Rattle.flow_worklist.specs.declared.post.Post.TheVariants.{Nothing, Open, Leads}
-use Rattle.flow_worklist.specs.Post.{NoState, RowExpansion, nothing, caused, post, image_bytes}
+use Rattle.flow_worklist.specs.Post.{RowExpansion, nothing, caused, post, image_bytes}
 
 -- next pairs alone
 abbrev pub leads_to : List ℕ → RowExpansion

@@ -61,9 +61,13 @@ fn is_touched(image: &Image, writes: &[(u32, u32)], a: u64) -> bool
 fn is_written(writes: &[(u32, u32)], a: u64) -> bool
     ensures { result ≡ list_any (λ w. is_in_span a (record { low = w.0; size = w.1 })) writes.now }
 {
-    writes
-        .iter()
-        .any(|w| is_in_span(a, Span { low: w.0, size: w.1 }))
+    writes.iter().any(|w| is_in_span(
+        a,
+        Span {
+            low: w.0,
+            size: w.1,
+        },
+    ))
 }
 
 fn is_unset(unset: &[Span], a: u64) -> bool

@@ -1,10 +1,9 @@
 -- The headline: the theorem on the log, carried to the lines of its text.
-use Rattle.std.proofs.Common.{◌≡◌, ℕ, List, [], ◌∷◌, map, sym, ◌∙◌}
+use Rattle.std.proofs.Common.{ℕ, List, [], ◌∷◌, map, sym, ◌∙◌}
 use Rattle.std.specs.Prelude.{Contains, ⊤}
 use Rattle.memory_map.specs.Image.{Image}
 use Rattle.memory_map.specs.State.{MachineState}
 use Rattle.memory_map.specs.Start.{Start}
-use Rattle.flow_log.specs.declared.cause.Cause.{Cause}
 use Rattle.flow_log.specs.declared.edge.Edge.{Edge}
 use Rattle.flow_log.specs.Log.{IsOpen, marks_of}
 use Rattle.flow_log.specs.Run.{IsRun, Follows}
@@ -14,8 +13,7 @@ use Rattle.flow_log.proofs.Closing.{log_closed}
 use Rattle.flow_log.proofs.Induction.{run_follows}
 use Rattle.flow_log.proofs.Orders.{Contains-edge_set}
 use Rattle.x86_machine.specs.Machine.{machine_of, edge_of}
-use Rattle.automaton_text.specs.declared.automaton.Automaton.{Automaton}
-use Rattle.automaton_text.specs.Text.{edge_line, text_of}
+use Rattle.automaton_text.specs.Text.{edge_line}
 use Rattle.automaton_text.proofs.Orders.{Contains-mark_set}
 use Rattle.flow_worklist.specs.Post.{NoState}
 use Rattle.flow_worklist.specs.Analysis.{analysis_of, image_log, automaton_of, mark_of, Keeps}

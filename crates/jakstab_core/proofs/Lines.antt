@@ -1,5 +1,5 @@
 -- Which lines the text of an automaton has.
-use Rattle.std.proofs.Common.{◌≡◌, ℕ, ◌⊎◌, List, [], ◌∷◌, ◌++◌, length, refl, sym, ◌∙◌, ap, subst, inl, inr, append_assoc}
+use Rattle.std.proofs.Common.{◌≡◌, ℕ, List, [], ◌∷◌, ◌++◌, length, refl, sym, ◌∙◌, ap, subst, inl, inr, append_assoc}
 use Rattle.std.specs.Prelude.{Contains, flat_map, codes}
 use Rattle.flow_log.specs.declared.edge.Edge.{Edge}
 use Rattle.flow_log.proofs.Members.{Contains-cases, Contains-none}

@@ -1,7 +1,7 @@
 -- What follows of each status.
-use Rattle.std.proofs.Common.{◌≡◌, ℕ, ◌<◌, ◌≤◌, ◌⊎◌, List, length, Option, Some, None, refl, sym, ◌∙◌, ap, subst, inl, inr, arith}
+use Rattle.std.proofs.Common.{◌≡◌, ℕ, ◌<◌, ◌≤◌, List, length, Option, Some, None, refl, sym, ◌∙◌, ap, subst, inl, inr, arith}
 use Rattle.std.specs.Prelude.{◌↔◌, IsSomeAnd}
-use Rattle.outside_io.specs.Outside.{Contents, WhereHeld, IsWhole, Rose, Gained, GainedPrefix}
+use Rattle.outside_io.specs.Outside.{Contents, WhereHeld, IsWhole, Rose}
 use Rattle.image_loader.specs.declared.fault.LoadFault.{LoadFault}
 use Rattle.image_loader.specs.declared.fault.LoadFault.TheVariants as faults
 use Rattle.image_loader.specs.FaultNumber.{number_of}
@@ -10,8 +10,7 @@ use Rattle.jakstab_core.specs.declared.status.Input.TheVariants as inputs
 use Rattle.jakstab_core.specs.declared.status.Status.{Status}
 use Rattle.jakstab_core.specs.declared.status.Status.TheVariants.{Done, VerdictNo, Usage, ReadFault, TooLong, WriteFault, ImageRefused, StubsRefused, Memory, InputRefused}
 use Rattle.jakstab_core.specs.Words.{image_word}
-use Rattle.jakstab_core.specs.Headline.{recovered_text}
-use Rattle.jakstab_core.specs.Says.{Call, Says, Recovers, IsRead, IsRecovered, SaysDone, SaysUsage, SaysReadFault, SaysTooLong, SaysImageRefused, SaysWriteFault, SaysMemory, IsUsageExact, IsFaultless, IsComplete, IMAGE_LIMIT}
+use Rattle.jakstab_core.specs.Says.{Call, Says, Recovers, IsRead, IsUsageExact, IsFaultless, IsComplete, IMAGE_LIMIT}
 use Rattle.jakstab_core.proofs.Covering.{text_covers}
 
 -- what `recover` says, with an image read by name, is what the call says

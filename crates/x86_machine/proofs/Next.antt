@@ -1,16 +1,13 @@
 -- Every instruction that is no fault has a next state.
-use Rattle.std.proofs.Common.{◌≡◌, ℕ, Bool, true, false, List, Option, Some, None, refl, sym, ◌∙◌, ap, subst, ◌==◌}
-use Rattle.std.specs.Prelude.{Result, Ok, Err, MatchBool}
+use Rattle.std.proofs.Common.{◌≡◌, ℕ, Bool, List, Option, Some, refl, sym, ap, subst}
+use Rattle.std.specs.Prelude.{Ok, MatchBool}
 use Rattle.std.proofs.lemmas.Bool.{ne_eqb}
-use Rattle.memory_map.specs.declared.choice.Choice.{Choice}
-use Rattle.memory_map.specs.declared.fault.FaultKind.{FaultKind}
-use Rattle.memory_map.specs.Image.{Image, EXIT_PLACE, name_at}
+use Rattle.memory_map.specs.Image.{EXIT_PLACE, name_at}
 use Rattle.memory_map.specs.State.{MachineState}
 use Rattle.x86_syntax.specs.declared.instr.Instr.{Instr}
 use Rattle.x86_syntax.specs.declared.instr.Mnemonic.{Mnemonic}
 use Rattle.x86_syntax.specs.declared.instr.Mnemonic.TheVariants.{Nop, Jmp, J, Int3, Hlt}
 use Rattle.x86_syntax.specs.declared.instr.Operand.{Operand}
-use Rattle.x86_syntax.specs.Decodes.{decoded}
 use Rattle.x86_semantics.specs.Does.{does, does_named}
 use Rattle.x86_machine.specs.StepBy.{StepBy, AtName, AtInstr, stepped, exited, fetched, outcome_of}
 use Rattle.x86_machine.specs.Laws.{GoesOn, HasNextState}

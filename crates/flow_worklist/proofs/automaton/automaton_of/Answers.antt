@@ -1,16 +1,12 @@
 -- Each field is the definition's.
-use Rattle.std.proofs.Common.{◌≡◌, ℕ, List, length, map, get_or, sym, ◌∙◌, ap, subst}
+use Rattle.std.proofs.Common.{List, map, ◌∙◌, ap}
 use Rattle.std.specs.Ordering.{nat_cmp}
-use Rattle.flow_log.specs.declared.edge.Edge.{Edge}
-use Rattle.flow_log.specs.Log.{Row, marks_of}
+use Rattle.flow_log.specs.Log.{Row}
 use Rattle.flow_log.specs.Ordered.{ordered_set}
 use Rattle.flow_log.specs.Orders.{edge_cmp}
 use Rattle.automaton_text.specs.Orders.{mark_cmp}
-use Rattle.automaton_text.specs.declared.automaton.Automaton.{Automaton}
-use Rattle.automaton_text.specs.declared.automaton.Location.{Location}
-use Rattle.automaton_text.specs.declared.automaton.OpenMark.{OpenMark}
 use Rattle.flow_worklist.specs.Post.{NoState}
-use Rattle.flow_worklist.specs.Analysis.{analysis_of, automaton_of, entry_of, location_of, mark_of}
+use Rattle.flow_worklist.specs.Analysis.{automaton_of, entry_of, location_of}
 use Rattle.flow_worklist.proofs.Marking.{entry_at, same_automaton}
 use Rattle.flow_worklist.proofs.automaton.automaton_of.Goals as goal
 

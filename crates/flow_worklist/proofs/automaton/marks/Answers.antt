@@ -1,12 +1,11 @@
 -- The three parts of the marks, one after another.
-use Rattle.std.proofs.Common.{◌≡◌, ◌++◌, List, [], map, sym, ◌∙◌, ap}
+use Rattle.std.proofs.Common.{map}
 use Rattle.std.specs.Prelude.{filter, filter_map, flat_map, not}
 use Rattle.flow_log.specs.declared.cause.Cause.TheVariants.{Budget}
 use Rattle.flow_log.specs.Log.{marks_of, marked, mark_of_cause}
-use Rattle.automaton_text.specs.declared.automaton.OpenMark.{OpenMark}
 use Rattle.flow_worklist.specs.Post.{fixed_causes}
 use Rattle.flow_worklist.specs.Analysis.{mark_of}
-use Rattle.flow_worklist.proofs.Marking.{map_three, pushed_three}
+use Rattle.flow_worklist.proofs.Marking.{pushed_three}
 use Rattle.flow_worklist.proofs.automaton.marks.Goals as goal
 
 pub returns : goal.returns

@@ -1,5 +1,5 @@
 -- One more cause.
-use Rattle.std.proofs.Common.{◌≡◌, ◌++◌, ◌<◌, length, take, map, get_or, ap, sym, ◌∙◌, append_assoc, arith}
+use Rattle.std.proofs.Common.{◌++◌, ◌<◌, length, take, map, get_or, ap, sym, ◌∙◌, append_assoc, arith}
 use Rattle.std.specs.Prelude.{filter_map, option_map, option_to_list}
 use Rattle.flow_log.specs.declared.cause.Cause.TheVariants.{Bytes}
 use Rattle.flow_log.specs.Log.{mark_of_cause}

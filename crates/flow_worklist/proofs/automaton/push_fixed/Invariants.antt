@@ -1,6 +1,6 @@
 use Rattle.std.proofs.Common.{◌≡◌, ◌++◌, take, map}
-use Rattle.std.specs.Prelude.{flat_map, filter_map}
-use Rattle.flow_log.specs.Log.{marked, mark_of_cause}
+use Rattle.std.specs.Prelude.{flat_map}
+use Rattle.flow_log.specs.Log.{marked}
 use Rattle.flow_worklist.specs.Post.{fixed_causes}
 use Rattle.flow_worklist.specs.Analysis.{mark_of}
 use Rattle.flow_worklist.proofs.automaton.push_fixed.Given as goal

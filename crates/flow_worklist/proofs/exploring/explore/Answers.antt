@@ -1,8 +1,8 @@
 -- The log so far with what is left to expand is the log of the image.
-use Rattle.std.proofs.Common.{◌≡◌, ℕ, suc, ◌+◌, ◌-◌, ◌<◌, Some, None, sym, ◌∙◌, ap, arith}
+use Rattle.std.proofs.Common.{◌≡◌, suc, ◌+◌, ◌-◌, None, sym, ◌∙◌, ap, arith}
 use Rattle.std.specs.Prelude.{slice_get}
 use Rattle.flow_log.specs.Log.{explored}
-use Rattle.flow_worklist.specs.Analysis.{analysis_of, image_log}
+use Rattle.flow_worklist.specs.Analysis.{analysis_of}
 use Rattle.flow_worklist.specs.Growing.{log_in}
 use Rattle.flow_worklist.proofs.Expanding.{explored_one, explored_past, explored_spent, explored_all, row_found, none_found}
 use Rattle.flow_worklist.proofs.exploring.explore.Goals as goal
@@ -11,10 +11,11 @@ pub loop-n-init : goal.loop-n-init
 loop-n-init c = record {
   indexed = c.in_ok-exploration.ensures.indexed;
   log = (let a = analysis_of c.args.image.now in
-         let fuel : c.args.budget - 0 ≡ c.args.budget = omega arith in
-         ap (λ n. explored a c.args.budget n 0 (log_in c.in_ok-exploration.exploration)) fuel
-         ∙ ap (λ l. explored a c.args.budget c.args.budget 0 l) c.in_ok-exploration.ensures.log
-         ∙ explored_all c.args.image.now c.args.budget) }
+      let fuel : c.args.budget - 0 ≡ c.args.budget = omega arith in
+      ap (λ n. explored a c.args.budget n 0 (log_in c.in_ok-exploration.exploration)) fuel
+      ∙ ap (λ l. explored a c.args.budget c.args.budget 0 l) c.in_ok-exploration.ensures.log
+      ∙ explored_all c.args.image.now c.args.budget);
+}
 
 pub returns-in-None : goal.returns-in-None
 returns-in-None c =
@@ -33,8 +34,9 @@ loop-n-preserved c =
     record {
       indexed = c.in_ok-expand-in-Some.ensures.indexed;
       log = sym (ap (λ k. explored (analysis_of image) budget k n log) fuel
-                 ∙ explored_one image budget (budget - (n + 1)) n found.0 log (log_in c.expand.new.self) found.1 (c.in_ok-expand-in-Some.ensures.log found.0 found.2))
-            ∙ c.loop-n.invariant.log }
+          ∙ explored_one image budget (budget - (n + 1)) n found.0 log (log_in c.expand.new.self) found.1 (c.in_ok-expand-in-Some.ensures.log found.0 found.2))
+          ∙ c.loop-n.invariant.log;
+    }
 
 pub returns : goal.returns
 returns c =

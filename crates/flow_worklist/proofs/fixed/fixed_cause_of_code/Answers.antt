@@ -1,5 +1,5 @@
 -- The bytes that the image has at the address decode as the definition says.
-use Rattle.std.proofs.Common.{◌≡◌, Some, None, true, false, sym, ◌∙◌, ap}
+use Rattle.std.proofs.Common.{◌≡◌, true, false, sym, ◌∙◌, ap}
 use Rattle.x86_syntax.specs.Decodes.{decoded}
 use Rattle.flow_worklist.specs.Post.{image_bytes}
 use Rattle.flow_worklist.proofs.Posting.{fixed-none, fixed-instr}

@@ -1,6 +1,5 @@
 -- The bytes that the image has at the address decode as the definition says.
-use Rattle.std.proofs.Common.{◌≡◌, Some, None, take, sym, ◌∙◌, ap}
-use Rattle.x86_syntax.specs.declared.instr.Instr.{Instr}
+use Rattle.std.proofs.Common.{◌≡◌, Some, take, sym, ◌∙◌, ap}
 use Rattle.x86_syntax.specs.Decodes.{decoded}
 use Rattle.flow_log.specs.declared.edge.Label.TheVariants.{Code}
 use Rattle.flow_worklist.specs.Post.{image_bytes}
@@ -14,10 +13,11 @@ returns-in-Ok c =
     let image = c.args.image.now in
     let at = c.args.at in
     let bytes : c.as_slice.result.now ≡ image_bytes image at = c.as_slice.ensures.value ∙ c.fetch-bytes.ensures in
-    let found : decoded (image_bytes image at) ≡ Some (c.in-Ok.i, c.in-Ok.len) = ap decoded (sym bytes) ∙ sym c.in-Ok.ensures.exact in
-    (post-instr image at c.in-Ok.i c.in-Ok.len c.requires.runs c.requires.unnamed found ∙ ap leads_to (sym c.targets.ensures),
-     label-instr image at c.in-Ok.i c.in-Ok.len c.requires.unnamed found
-     ∙ ap (λ items. Code (record { items = items })) (ap (λ bs. take c.in-Ok.len bs) (sym c.fetch-bytes.ensures) ∙ sym c.first.ensures))
+    let found : decoded (image_bytes image at) ≡ Some (c.in-Ok.i, c.in-Ok.len) = ap decoded (sym bytes) ∙ sym c.in-Ok.ensures.exact in (
+      post-instr image at c.in-Ok.i c.in-Ok.len c.requires.runs c.requires.unnamed found ∙ ap leads_to (sym c.targets.ensures),
+      label-instr image at c.in-Ok.i c.in-Ok.len c.requires.unnamed found
+          ∙ ap (λ items. Code (record { items = items })) (ap (λ bs. take c.in-Ok.len bs) (sym c.fetch-bytes.ensures) ∙ sym c.first.ensures),
+    )
 
 pub returns-in-Err : goal.returns-in-Err
 unfolding image_bytes

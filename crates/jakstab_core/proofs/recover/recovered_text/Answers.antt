@@ -1,10 +1,9 @@
 -- The log has a row and its edges are spelled, so it is an automaton's that can be printed.
-use Rattle.std.proofs.Common.{◌≡◌, ℕ, ◌<◌, List, length, sym, ◌∙◌, ap, subst}
+use Rattle.std.proofs.Common.{◌<◌, length, sym, ◌∙◌, ap, subst}
 use Rattle.std.proofs.lemmas.Result.{IfOk-weaker}
-use Rattle.flow_log.specs.declared.edge.Edge.{Edge}
 use Rattle.automaton_text.specs.declared.automaton.Automaton.{Automaton}
 use Rattle.automaton_text.specs.Text.{AreSpelled, text_of}
-use Rattle.flow_worklist.specs.Analysis.{ImageLog, image_log, automaton_of}
+use Rattle.flow_worklist.specs.Analysis.{ImageLog, automaton_of}
 use Rattle.flow_worklist.proofs.Spelling.{log_has_row, automaton_spelled}
 use Rattle.jakstab_core.specs.Headline.{BUDGET, recovered_text}
 use Rattle.jakstab_core.proofs.recover.recovered_text.Goals as goal

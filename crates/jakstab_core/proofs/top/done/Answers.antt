@@ -1,5 +1,5 @@
 -- The image was read whole by the name that the words give.
-use Rattle.std.proofs.Common.{◌≡◌, ℕ, List, map, sym, subst}
+use Rattle.std.proofs.Common.{ℕ, List, map, sym, subst}
 use Rattle.std.specs.Prelude.{string_bytes}
 use Rattle.outside_io.specs.Outside.{IsWhole}
 use Rattle.jakstab_core.specs.Says.{Call, IsRead, IMAGE_LIMIT}

@@ -1,14 +1,8 @@
 -- Each arm is one case of the expansion.
-use Rattle.std.proofs.Common.{◌≡◌, ℕ, sym, ◌∙◌, ap, subst}
+use Rattle.std.proofs.Common.{◌∙◌, ap}
 use Rattle.std.proofs.lemmas.Result.{on_ok_weaker}
-use Rattle.flow_log.specs.declared.edge.Label.TheVariants.{Code}
-use Rattle.flow_log.specs.Log.{Row, with_expansion}
-use Rattle.memory_map.specs.Image.{name_at}
-use Rattle.x86_machine.specs.Machine.{label_by}
-use Rattle.flow_worklist.specs.Post.{NoState, image_bytes, post, nothing, caused}
-use Rattle.flow_worklist.specs.Posted.{leads_to}
-use Rattle.flow_worklist.specs.Analysis.{analysis_of}
-use Rattle.flow_worklist.specs.Exploring.{cause_added, pairs_added}
+use Rattle.flow_log.specs.Log.{Row}
+use Rattle.flow_worklist.specs.Post.{NoState, post}
 use Rattle.flow_worklist.specs.Growing.{log_in}
 use Rattle.flow_worklist.proofs.Expanding.{expands_nothing, expands_cause, expands_at}
 use Rattle.flow_worklist.proofs.exploring.Exploration.expand.Goals as goal
@@ -27,6 +21,6 @@ pub returns-in-Leads-clause-log : goal.returns-in-Leads-clause-log
 returns-in-Leads-clause-log c =
     on_ok_weaker c.follow.result
     (λ done (row : Row NoState) at. done
-        ∙ expands_at c.args.image.now c.args.budget c.args.number c.args.at c.in-Leads.targets.items c.in-Leads.bytes.items c.as_slice-in-Leads.result.now c.as_slice.result.now
-          (log_in c.args.self.now) c.as_slice-in-Leads.ensures.value c.as_slice.ensures.value c.in-Leads.ensures.0 c.in-Leads.ensures.1 row at)
+    ∙ expands_at c.args.image.now c.args.budget c.args.number c.args.at c.in-Leads.targets.items c.in-Leads.bytes.items c.as_slice-in-Leads.result.now c.as_slice.result.now
+    (log_in c.args.self.now) c.as_slice-in-Leads.ensures.value c.as_slice.ensures.value c.in-Leads.ensures.0 c.in-Leads.ensures.1 row at)
     c.follow.ensures.log
