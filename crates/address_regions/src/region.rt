@@ -1,5 +1,5 @@
 ghost use Rattle.std.specs.Prelude.{◌≡◌};
-ghost use Rattle.address_regions.specs.Extents.{bounds_inside, extent_of, has_one_base, is_in_extent, is_inside};
+ghost use Rattle.address_regions.specs.Extents.{bounds_inside, extent_of, has_one_base, has_room, is_in_extent, is_inside};
 
 /// A part of memory that a program addresses from a base of its own.
 ///
@@ -41,6 +41,16 @@ impl Region {
     {
         let (low, high) = self.extent();
         low <= i64::from(offset) && i64::from(offset) < high
+    }
+
+    /// Whether the region has 4 to 67,108,864 bytes.
+    pub fn has_room(self) -> bool
+        ensures { result ≡ has_room self }
+    {
+        match self {
+            Region::Stack | Region::Fs | Region::Gs => true,
+            Region::Block { size, .. } => 4 <= size && size <= 67_108_864,
+        }
     }
 
     /// The least and the greatest offset at which four bytes lie in the region.

@@ -1,0 +1,9 @@
+pub mod Reached
+pub mod Laws
+pub mod Made
+pub mod Rules
+pub mod Flat
+pub mod ResultLaws
+pub mod RuleLaws
+pub mod SharedLaws
+pub mod FlatLaws
