@@ -8,3 +8,6 @@ mod rules;
 mod value;
 
 pub use value::Bounded;
+
+#[cfg(test)]
+mod tests;

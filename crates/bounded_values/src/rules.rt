@@ -8,7 +8,7 @@ use bit_words::{Op, Width, apply};
 
 // The rules of eval that follow those of every domain: the first that applies, and else any.
 #[tactic(auto, unfolding(crate::specs::Rules::by_places))]
-pub fn by_places(op: Op, w: Width, a: Bounded, b: Bounded, align: u32) -> Bounded
+pub(crate) fn by_places(op: Op, w: Width, a: Bounded, b: Bounded, align: u32) -> Bounded
     ensures { result ≡ by_places op w a b align }
 {
     moved_place(op, w, a, b)

@@ -1,12 +1,12 @@
 -- Each result of an operator is one at operands of 32 bits.
-use Rattle.std.proofs.Common.{◌≡◌, ℕ, ◌*◌, ◌/◌, ◌%◌, ◌^◌, ◌<◌, min, refl, sym, ap, ◌∙◌, arith}
+use Rattle.std.proofs.Common.{◌≡◌, ℕ, ◌*◌, ◌/◌, ◌%◌, ◌^◌, ◌<◌, min, refl, sym, ap, ◌∙◌, arith, subst}
 use Rattle.bit_words.specs.declared.width.Width.{Width}
 use Rattle.bit_words.specs.declared.op.Op.{Op}
 use Rattle.bit_words.specs.declared.op.Op.TheVariants.{Shl, Shr, Sar, Rol, Ror}
 use Rattle.bit_words.specs.Width.{bits_of, cut, signed_of, word_of}
 use Rattle.bit_words.specs.Operators.{apply_op, formula, shifted_down}
 use Rattle.bit_words.proofs.Words.{bits_of_le, bits_of-pos, word-lt}
-use Rattle.bit_words.proofs.Laws.{cut-lt, apply-cut_left, apply-cut_right, rol-mod, ror-mod}
+use Rattle.bit_words.proofs.Laws.{apply-lt, cut-lt, apply-cut_left, apply-cut_right, rol-mod, ror-mod}
 use Rattle.std.proofs.lemmas.Nat.{mod_below}
 use Rattle.domain_laws.specs.Laws.{IsValueOf}
 
@@ -38,3 +38,7 @@ pub apply-is_value : (op : Op) (w : Width) (a b : ℕ) → IsValueOf op w (apply
 apply-is_value op w a b =
     let (c, fits, e) = second op w a b in
     record { first = cut w a; second = c; first_fits = word-lt w (cut w a) (cut-lt w a); second_fits = fits; is = sym (apply-cut_left op w a c ∙ e) }
+
+-- such a result fits the width
+pub value-lt : (op : Op) (w : Width) (n : ℕ) → IsValueOf op w n → n < 2 ^ bits_of w
+value-lt op w n v = subst (λ k. k < 2 ^ bits_of w) (sym v.is) (apply-lt op w v.first v.second)

@@ -94,3 +94,39 @@ impl Domain for FlatNumbers {
         FlatNumbers::Any
     }
 }
+
+#[cfg(test)]
+mod tests {
+    use super::*;
+
+    #[test]
+    fn flat_values_are_numbers_or_any(rt: HostRuntime) {
+        let number = |n: u32| FlatNumbers::Number(n);
+        let rows = [
+            (Op::Add, number(2), number(3), number(5)),
+            (Op::Neg, number(1), FlatNumbers::Any, number(0xFFFF_FFFF)),
+            (Op::And, FlatNumbers::Any, number(0), number(0)),
+            (Op::Add, FlatNumbers::Any, number(0), FlatNumbers::Any),
+            (Op::Mul, FlatNumbers::Any, number(0), FlatNumbers::Any),
+        ];
+        for (op, a, b, want) in rows {
+            assert!(rt;
+                FlatNumbers::eval(op, Width::B32, a, b, 16) == want,
+                "{op:?} of {a:?} and {b:?}"
+            );
+        }
+        assert!(rt; FlatNumbers::place(Region::Stack, 0) == FlatNumbers::Any);
+        assert!(rt; FlatNumbers::inside(Region::Stack) == FlatNumbers::any());
+        assert!(rt; number(7).reach() == Reach::Number { low: 7, high: 7 });
+        assert!(rt;
+            number(7).leq(FlatNumbers::Any)
+                && !FlatNumbers::Any.leq(number(7))
+                && !number(7).leq(number(8))
+        );
+        assert!(rt;
+            number(7).rank() == 1
+                && number(7).raise() == FlatNumbers::Any
+                && number(7).up_to(3) == number(7)
+        );
+    }
+}

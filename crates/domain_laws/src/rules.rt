@@ -73,3 +73,52 @@ fn is_number(known: Option<u32>, n: u32) -> bool
 {
     known == Some(n)
 }
+
+#[cfg(test)]
+mod tests {
+    use super::*;
+
+    #[test]
+    fn the_three_rules_by_the_numbers_of_the_operands(rt: HostRuntime) {
+        let rows = [
+            (
+                Op::Add,
+                Width::B8,
+                Some(0xFF),
+                Some(1),
+                Some(Settled::Number(0)),
+            ),
+            (
+                Op::Swap,
+                Width::B32,
+                Some(0x0102_0304),
+                None,
+                Some(Settled::Number(0x0403_0201)),
+            ),
+            (Op::Swap, Width::B32, None, Some(0), None),
+            (Op::And, Width::B8, None, Some(0), Some(Settled::Number(0))),
+            (Op::And, Width::B8, Some(0), None, Some(Settled::Number(0))),
+            (
+                Op::Or,
+                Width::B16,
+                Some(0xFFFF),
+                None,
+                Some(Settled::Number(0xFFFF)),
+            ),
+            (Op::Or, Width::B32, Some(0xFFFF), None, None),
+            (Op::Add, Width::B32, None, Some(0), Some(Settled::First)),
+            (Op::Add, Width::B32, Some(0), None, Some(Settled::Second)),
+            (Op::Add, Width::B16, None, Some(0), None),
+            (Op::Sub, Width::B32, None, Some(0), Some(Settled::First)),
+            (Op::Sub, Width::B32, Some(0), None, None),
+            (Op::Shl, Width::B32, None, Some(0), Some(Settled::First)),
+            (Op::Shr, Width::B32, None, Some(0), None),
+        ];
+        for (op, w, a, b, want) in rows {
+            assert!(rt;
+                settle(op, w, a, b) == want,
+                "{op:?} at {w:?} of {a:?} and {b:?}"
+            );
+        }
+    }
+}
