@@ -1,14 +1,12 @@
 -- Laws of the flags: a flag reads back as it was packed, and the flags of a difference compare its operands.
-use Rattle.std.proofs.Common.{◌≡◌, ℕ, ◌+◌, ◌-◌, ◌%◌, ◌^◌, ◌<◌, ◌≤◌, Bool, true, false, not, ◌&&◌, eqb, ltb, refl, sym, ap, ◌∙◌, arith, add-zero}
+use Rattle.std.proofs.Common.{◌≡◌, ℕ, ◌+◌, ◌-◌, ◌%◌, ◌^◌, ◌<◌, Bool, true, false, not, ◌&&◌, eqb, ltb, refl, ap, arith, add-zero}
 use Rattle.std.proofs.lemmas.Bool.Decides.{nat_tests}
 use Rattle.bit_words.specs.declared.width.Width.{Width}
 use Rattle.bit_words.specs.declared.width.Width.TheVariants.{B8, B16, B32}
-use Rattle.bit_words.specs.declared.op.Op.{Op}
 use Rattle.bit_words.specs.declared.op.Op.TheVariants.{Add, Sub}
-use Rattle.bit_words.specs.declared.flags.Flags.{Flags}
 use Rattle.bit_words.specs.Width.{bits_of, cut}
 use Rattle.bit_words.specs.Operators.{apply_op, formula, one_if}
-use Rattle.bit_words.specs.Flags.{FlagBits, packed, unpacked, sum_of, difference_of, sum_flags, difference_flags}
+use Rattle.bit_words.specs.Flags.{FlagBits, packed, unpacked, sum_of, difference_of, difference_flags}
 use Rattle.bit_words.proofs.Laws.{cut-lt}
 
 -- ---- seven flags packed and read back: one computation over all their values
@@ -47,8 +45,13 @@ same_flags f g =
 of_bools-same : (c c' p p' a a' z z' s s' o o' d d' : Bool) → c ≡ c' → p ≡ p' → a ≡ a' → z ≡ z' → s ≡ s' → o ≡ o' → d ≡ d' → of_bools c p a z s o d ≡ of_bools c' p' a' z' s' o' d'
 of_bools-same c c' p p' a a' z z' s s' o o' d d' e1 e2 e3 e4 e5 e6 e7 = cc
 
+-- two records of flags are equal where each flag is
+pub flags-same : (f g : FlagBits) → f.carry ≡ g.carry → f.parity ≡ g.parity → f.adjust ≡ g.adjust → f.zero ≡ g.zero → f.sign ≡ g.sign → f.overflow ≡ g.overflow → f.direction ≡ g.direction → f ≡ g
+unfolding of_bools
+flags-same f g c p a z s o d = of_bools-same _ _ _ _ _ _ _ _ _ _ _ _ _ _ c p a z s o d
+
 same_flags-eq : (f g : FlagBits) → same_flags f g ≡ true → f ≡ g
-unfolding same_flags of_bools
+unfolding same_flags
 same_flags-eq f g h =
     let h1 = and_true _ _ h in
     let h2 = and_true _ _ h1.1 in
@@ -56,7 +59,7 @@ same_flags-eq f g h =
     let h4 = and_true _ _ h3.1 in
     let h5 = and_true _ _ h4.1 in
     let h6 = and_true _ _ h5.1 in
-    of_bools-same _ _ _ _ _ _ _ _ _ _ _ _ _ _ (same-eq f.carry g.carry h1.0) (same-eq f.parity g.parity h2.0) (same-eq f.adjust g.adjust h3.0) (same-eq f.zero g.zero h4.0) (same-eq f.sign g.sign h5.0) (same-eq f.overflow g.overflow h6.0) (same-eq f.direction g.direction h6.1)
+    flags-same f g (same-eq f.carry g.carry h1.0) (same-eq f.parity g.parity h2.0) (same-eq f.adjust g.adjust h3.0) (same-eq f.zero g.zero h4.0) (same-eq f.sign g.sign h5.0) (same-eq f.overflow g.overflow h6.0) (same-eq f.direction g.direction h6.1)
 
 back : Bool → Bool → Bool → Bool → Bool → Bool → Bool → Bool
 back c p a z s o d = same_flags (unpacked (packed (of_bools c p a z s o d))) (of_bools c p a z s o d)

@@ -1,7 +1,6 @@
 -- Laws of words and of the operators, each once over the width.
-use Rattle.std.proofs.Common.{◌≡◌, ℕ, ◌+◌, ◌-◌, ◌*◌, ◌/◌, ◌%◌, ◌^◌, ◌<◌, ◌≤◌, min, Bool, true, false, refl, sym, ap, ◌∙◌, subst, arith, rules, bit_and, bit_or, bit_xor, ltb, eqb, if◌then◌else◌, ℤ, pos, negsuc, ◌*ℤ◌, lit<}
+use Rattle.std.proofs.Common.{◌≡◌, ℕ, ◌+◌, ◌-◌, ◌*◌, ◌/◌, ◌%◌, ◌^◌, ◌<◌, ◌≤◌, min, Bool, true, false, refl, sym, ap, ◌∙◌, arith, ltb, eqb, ℤ, pos, negsuc, ◌*ℤ◌, lit<}
 use Rattle.std.proofs.lemmas.Nat.{pow_pos, or_lt, xor_lt, and_le_l, shr_le, mul-le, and_mask, div-add-mod'}
-use Rattle.std.proofs.lemmas.Grind.{common_steps}
 use Rattle.std.proofs.Math.Nat.{mod-lt, mod-eq_of_lt, div-lt_iff_lt-mul, zero-mod, pow-le-pow_right, mul-mod_left, mod-mod}
 use Rattle.std.proofs.lemmas.Nat.Bits.{and_high_mask}
 use Rattle.std.specs.Int.Bits.{and_self, and_zero_r, xor_self}
@@ -10,9 +9,9 @@ use Rattle.bit_words.specs.declared.width.Width.{Width}
 use Rattle.bit_words.specs.declared.width.Width.TheVariants.{B8, B16, B32}
 use Rattle.bit_words.specs.declared.op.Op.{Op}
 use Rattle.bit_words.specs.declared.op.Op.TheVariants.{Add, Sub, And, Or, Xor, Not, Neg, Mul, HighU, HighS, Shl, Shr, Sar, Rol, Ror, Eq, Ult, Low8, High8, Low16, PutLow8, PutHigh8, PutLow16, Sign8, Sign16, Swap}
-use Rattle.bit_words.specs.Width.{bits_of, cut, signed_of, modulo, word_of}
+use Rattle.bit_words.specs.Width.{bits_of, cut, signed_of, modulo}
 use Rattle.bit_words.specs.Operators.{apply_op, formula, one_if, takes_count, operand, rotated, shifted_down}
-use Rattle.bit_words.proofs.Words.{rotated-lt, bits_of-pos}
+use Rattle.bit_words.proofs.Words.{rotated-lt, rotated-rotated, bits_of-pos}
 
 -- ---- cutting
 
@@ -227,6 +226,14 @@ rol-mod w a c = ap (rotated (bits_of w) (cut w a)) (mod-mod c (bits_of w))
 pub ror-mod : (w : Width) (a c : ℕ) → apply_op Ror w a (c % bits_of w) ≡ apply_op Ror w a c
 unfolding apply_op formula
 ror-mod w a c = ap (λ k. rotated (bits_of w) (cut w a) (bits_of w - k)) (mod-mod c (bits_of w))
+
+pub ror-rol : (w : Width) (a c : ℕ) → apply_op Ror w (apply_op Rol w a c) c ≡ cut w a
+unfolding apply_op formula
+ror-rol w a c =
+    let k = c % bits_of w in
+    let h : k ≤ bits_of w = let m = mod-lt c {m = bits_of w} (bits_of-pos w) in omega arith in
+    let e : cut w (rotated (bits_of w) (cut w a) k) ≡ rotated (bits_of w) (cut w a) k = cut_fit w _ (rotated-lt (bits_of w) (cut w a) k (cut-lt w a) h) in
+    rw e (rotated-rotated (bits_of w) (cut w a) k (cut-lt w a) h)
 
 -- ---- products
 

@@ -1,4 +1,5 @@
 pub mod FlagLaws
+pub mod FlagSets
 pub mod Laws
 pub mod Signed
 pub mod SignedLaws

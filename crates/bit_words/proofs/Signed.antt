@@ -1,5 +1,5 @@
 -- The code's sums of signed numbers, which go through the bits of 64, are the sums of the integers.
-use Rattle.std.proofs.Common.{◌≡◌, ℕ, ◌+◌, ◌-◌, ◌^◌, ◌<◌, ℤ, pos, ◌+ℤ◌, ◌-ℤ◌, Bool, true, false, arith, w32, w64, FitsSigned, to_z, of_z, refl, ◌∙◌, lit<}
+use Rattle.std.proofs.Common.{◌≡◌, ℤ, pos, ◌+ℤ◌, ◌-ℤ◌, Bool, true, false, arith, w32, w64, FitsSigned, to_z, of_z, refl, lit<}
 use Rattle.std.proofs.lemmas.Int.{ints, to_z-of_z}
 use Rattle.std.specs.Int.{from_bool}
 use Rattle.bit_words.specs.Operators.{one_if}

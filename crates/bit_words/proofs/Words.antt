@@ -1,7 +1,7 @@
 -- Laws of words that every operator shares.
 use Rattle.std.proofs.Common.{◌≡◌, ℕ, ◌+◌, ◌-◌, ◌*◌, ◌/◌, ◌%◌, ◌^◌, ◌<◌, ◌≤◌, refl, sym, ap, ◌∙◌, arith, subst, lit≤, lit<}
-use Rattle.std.proofs.lemmas.Nat.{pow_pos, pow-add, mul-add-lt, one_shl}
-use Rattle.std.proofs.Math.Nat.{div-lt_iff_lt-mul, mod-lt, mod-eq_of_lt}
+use Rattle.std.proofs.lemmas.Nat.{pow_pos, pow-add, mul-add-lt, one_shl, div-add-mod'}
+use Rattle.std.proofs.Math.Nat.{div-lt_iff_lt-mul, mod-lt, mod-eq_of_lt, mul-add-mod_self_right, mul-add-div_right, add-zero}
 use Rattle.bit_words.specs.declared.width.Width.{Width}
 use Rattle.bit_words.specs.declared.width.Width.TheVariants.{B8, B16, B32}
 use Rattle.bit_words.specs.Width.{bits_of}
@@ -44,3 +44,20 @@ code-rotated w x c n a b e f g fits within =
     let below : rotated (bits_of w) x c < 2 ^ 32 = word-lt w _ (rotated-lt (bits_of w) x c fits within) in
     let small : x % 2 ^ (bits_of w - c) * 2 ^ c % 2 ^ 64 ≡ x % 2 ^ (bits_of w - c) * 2 ^ c = mod-eq_of_lt (omega arith) in
     rw (e, f, g, one, small)
+
+div_small : (x m : ℕ) → x < m → x / m ≡ 0
+div_small x m h =
+    let q : x / m < 1 = (div-lt_iff_lt-mul {k = m} {x = x} {y = 1} (omega arith)).1 (omega arith) in
+    omega arith
+
+-- a rotation left by c and one by the rest of the width undo each other
+pub rotated-rotated : (n x c : ℕ) → x < 2 ^ n → c ≤ n → rotated n (rotated n x c) (n - c) ≡ x
+rotated-rotated n x c fits within =
+    let d : n - (n - c) ≡ c = omega arith in
+    let e = pow-split n c within in
+    let fits' : x < 2 ^ c * 2 ^ (n - c) = subst (λ k. x < k) (sym e) fits in
+    let high : x / 2 ^ (n - c) < 2 ^ c = (div-lt_iff_lt-mul {k = 2 ^ (n - c)} {x = x} {y = 2 ^ c} (pow_pos (n - c))).1 fits' in
+    let low : x / 2 ^ (n - c) / 2 ^ c ≡ 0 = div_small (x / 2 ^ (n - c)) (2 ^ c) high in
+    let last : rotated n x c % 2 ^ c ≡ x / 2 ^ (n - c) = mul-add-mod_self_right (x % 2 ^ (n - c)) (2 ^ c) (x / 2 ^ (n - c)) ∙ mod-eq_of_lt high in
+    let first : rotated n x c / 2 ^ c ≡ x % 2 ^ (n - c) = mul-add-div_right (pow_pos c) (x % 2 ^ (n - c)) (x / 2 ^ (n - c)) ∙ rw (low, add-zero) refl in
+    rw (d, last, first) (div-add-mod' x (2 ^ (n - c)))

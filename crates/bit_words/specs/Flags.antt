@@ -1,5 +1,5 @@
 -- The flags of sums, differences and logic. Source: Intel manual, volume 1, status flags, and volume 2, ADC, SBB and AND.
-use Rattle.std.specs.Prelude.{ℕ, ◌+◌, ◌-◌, ◌%◌, ◌^◌, Bool, true, false, not, nat_lt, nat_le, ◌==◌, if◌then◌else◌, bit_and, bit_or, count_ones, pos, ◌+ℤ◌, ◌-ℤ◌}
+use Rattle.std.specs.Prelude.{ℕ, ◌+◌, ◌-◌, ◌%◌, ◌^◌, Bool, false, not, nat_lt, nat_le, ◌==◌, if◌then◌else◌, bit_and, bit_or, count_ones, pos, ◌+ℤ◌, ◌-ℤ◌}
 use Rattle.bit_words.specs.declared.width.Width.{Width}
 use Rattle.bit_words.specs.declared.flags.Flags.{Flags}
 use Rattle.bit_words.specs.Width.{bits_of, cut, signed_of, is_signed}
@@ -51,6 +51,10 @@ direction_of f = bit_and f.0 64 == 64
 
 abbrev pub unpacked : Flags → FlagBits
 unpacked f = record { carry = carry_of f; parity = parity_of f; adjust = adjust_of f; zero = zero_of f; sign = sign_of f; overflow = overflow_of f; direction = direction_of f }
+
+-- the flags f, with those that `which` has taken from g
+abbrev pub replaced : FlagBits → FlagBits → FlagBits → FlagBits
+replaced f which g = record { carry = if which.carry then g.carry else f.carry; parity = if which.parity then g.parity else f.parity; adjust = if which.adjust then g.adjust else f.adjust; zero = if which.zero then g.zero else f.zero; sign = if which.sign then g.sign else f.sign; overflow = if which.overflow then g.overflow else f.overflow; direction = if which.direction then g.direction else f.direction }
 
 -- ---- the rules
 

@@ -1,7 +1,7 @@
 -- The 26 operators, as formulas over numbers. Source: Intel manual, volume 2, the operation of the instructions named.
 use Rattle.std.specs.Prelude.{ℕ, ◌+◌, ◌-◌, ◌*◌, ◌/◌, ◌%◌, ◌^◌, min, Bool, true, false, nat_lt, ◌==◌, if◌then◌else◌, bit_and, bit_or, bit_xor, ℤ, pos, negsuc, ◌*ℤ◌}
 use Rattle.bit_words.specs.declared.width.Width.{Width}
-use Rattle.bit_words.specs.declared.width.Width.TheVariants.{B8, B16, B32}
+use Rattle.bit_words.specs.declared.width.Width.TheVariants.{B8, B16}
 use Rattle.bit_words.specs.declared.op.Op.{Op}
 use Rattle.bit_words.specs.declared.op.Op.TheVariants.{Add, Sub, And, Or, Xor, Not, Neg, Mul, HighU, HighS, Shl, Shr, Sar, Rol, Ror, Eq, Ult, Low8, High8, Low16, PutLow8, PutHigh8, PutLow16, Sign8, Sign16, Swap}
 use Rattle.bit_words.specs.Width.{bits_of, cut, signed_of, modulo, word_of}

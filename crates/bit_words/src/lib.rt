@@ -6,6 +6,8 @@
 mod flags;
 mod memory;
 mod op;
+#[cfg(test)]
+mod tests;
 mod width;
 
 pub use flags::{Flags, flags_of_add, flags_of_logic, flags_of_sub};

@@ -4,7 +4,7 @@ ghost use Rattle.bit_words.specs.Width.{bits_of, modulo};
 
 use crate::width::Width;
 
-/// An operator of the processor's arithmetic. Those that end in a number of bits, and the parts, are used at 32 bits.
+/// An operator of the processor's arithmetic. `Low8`, `High8`, `Low16`, the three `Put` operators and `Swap` are meant for 32 bits; their values at other widths are cut to the width.
 #[derive(Clone, Copy, Debug)]
 pub enum Op {
     Add,

@@ -1,5 +1,4 @@
-use Rattle.std.proofs.Common.{◌≡◌, ℕ, ◌+◌, ◌-◌, ◌*◌, ◌/◌, ◌%◌, ◌^◌, ◌<◌, ◌≤◌, arith, Fits, w32, w64}
-use Rattle.bit_words.specs.Operators.{rotated}
+use Rattle.std.proofs.Common.{arith}
 use Rattle.bit_words.specs.Width.{bits_of}
 use Rattle.bit_words.proofs.Words.{code-rotated, rotated-lt, word-lt}
 use Rattle.bit_words.proofs.op.rotated_left.Goals as goal
