@@ -1,6 +1,6 @@
 // The regions of a program's memory outside its image, the offsets that each has, and the places where they lie in one run.
 // It stands on no other crate of this repository.
-// Its contract: the extent of each region, the offsets at which a word lies inside it, and the laws of places modulo 2^32.
+// Its contract: the extent of each region and the offsets at which a word lies inside it. `specs/Places.antt` has the places, `proofs/` their laws.
 #![tactic(auto)]
 
 mod region;

@@ -15,6 +15,7 @@ use std::hash::Hash;
 ///
 /// No method takes memory, and none refuses.
 pub trait Domain: Copy + Eq + Hash + Send + Sync {
+    // The numbers for which a value stands, by the places of a run. Each other member is the function that the method of its name computes.
     ghost stands: { Self → Places → ℕ → Type 0 };
 
     ghost number: { ℕ → Self };
@@ -83,6 +84,20 @@ pub trait Domain: Copy + Eq + Hash + Send + Sync {
     fn raise(self) -> Self
         ensures { result ≡ raise self };
 
-    // What each domain proves of its functions.
-    ghost lawful: { IsLawful (record { stands = stands; number = number; place = place; inside = inside; any = any; eval = eval; number_of = number_of; reach = reach; up_to = up_to; leq = leq; rank = rank; raise = raise; eq = Self.eq }) };
+    // What each domain proves of these functions, and of `==`.
+    ghost lawful: { IsLawful (record {
+      stands = stands;
+      number = number;
+      place = place;
+      inside = inside;
+      any = any;
+      eval = eval;
+      number_of = number_of;
+      reach = reach;
+      up_to = up_to;
+      leq = leq;
+      rank = rank;
+      raise = raise;
+      eq = Self.eq;
+    }) };
 }
