@@ -1,0 +1,55 @@
+-- Where the regions lie in one run of the machine.
+use Rattle.std.specs.Prelude.{ℕ, ◌%◌, ◌^◌, ◌≡◌, ◌≤◌, ℤ, pos, ◌+ℤ◌, ◌≤ℤ◌, unsigned_abs, List, Contains, Option, Some, None, ⊤}
+use Rattle.std.specs.Int.{int_rem_euclid}
+use Rattle.address_regions.specs.declared.region.Region.{Region}
+use Rattle.address_regions.specs.declared.region.Region.TheVariants.{Stack, Fs, Gs, Block}
+use Rattle.address_regions.specs.Extents.{low_of, high_of}
+
+-- the alignment of the stack, the bases of the three windows, and the bases of the blocks, each with its region
+pub record Places : Type 0 where
+  pub align : ℕ
+  pub stack : ℕ
+  pub fs : ℕ
+  pub gs : ℕ
+  pub blocks : List (Region × ℕ)
+
+-- b is a base of a region; a pair in `blocks` whose region is no block gives none
+abbrev pub HasBase : Places → Region → ℕ → Type 0
+HasBase p Stack b = b ≡ p.stack
+HasBase p Fs b = b ≡ p.fs
+HasBase p Gs b = b ≡ p.gs
+HasBase p (Block site size zeroed) b = Contains p.blocks (Block site size zeroed, b)
+
+-- the address at an offset from a base, modulo 2 ^ 32
+abbrev pub place_at : ℕ → ℤ → ℕ
+place_at b o = unsigned_abs (int_rem_euclid (pos b +ℤ o) (pos (2 ^ 32)))
+
+-- a power of two from 4 to 4,096
+pub record IsAlignment (n : ℕ) : Type 0 where
+  pub log : ℕ
+  pub least : 2 ≤ log
+  pub greatest : log ≤ 12
+  pub power : n ≡ 2 ^ log
+
+-- the extent at a base lies in [4096, 0xF0000000)
+pub record IsAllowed (r : Region) (b : ℕ) : Type 0 where
+  pub low : pos 4096 ≤ℤ (pos b +ℤ low_of r)
+  pub high : (pos b +ℤ high_of r) ≤ℤ pos 0xF0000000
+
+-- the places that a run can have
+pub record IsValid (p : Places) : Type 0 where
+  pub alignment : IsAlignment p.align
+  pub aligned : p.stack % p.align ≡ 0
+  pub allowed : (r : Region) (b : ℕ) → HasBase p r b → IsAllowed r b
+
+-- the same alignment and the same bases of the three windows
+pub record SameWindows (p q : Places) : Type 0 where
+  pub align : q.align ≡ p.align
+  pub stack : q.stack ≡ p.stack
+  pub fs : q.fs ≡ p.fs
+  pub gs : q.gs ≡ p.gs
+
+-- q has all of p's bases of a region, where one is given
+abbrev pub KeepsBases : Option Region → Places → Places → Type 0
+KeepsBases None p q = ⊤
+KeepsBases (Some r) p q = (b : ℕ) → HasBase p r b → HasBase q r b
