@@ -1,4 +1,4 @@
 pub mod Formats
+pub mod Opcodes
 pub mod Spelling
 pub mod Decodes
-pub mod Text
