@@ -3,10 +3,6 @@
 // Its contract: `decode` answers exactly the spelling at the front, or why there is none.
 #![tactic(auto)]
 
-mod decoder;
 mod fault;
-#[cfg(test)]
-mod tests;
 
-pub use decoder::decode;
 pub use fault::DecodeFault;

@@ -1,3 +1,4 @@
 pub mod FormatLemmas
 pub mod SpellingLemmas
 pub mod DecodesLemmas
+pub mod TableLemmas
