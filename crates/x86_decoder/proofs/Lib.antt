@@ -1,1 +1,4 @@
 pub mod Readings
+pub mod Shortest
+pub mod Modrm
+pub mod Escapes

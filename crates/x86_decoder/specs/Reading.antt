@@ -1,9 +1,11 @@
 -- What an answer says of the bytes that are still to be read. `lang` is the set of strings that may follow, each with
 -- the instruction that it completes, `bytes` are those that do follow, of the first 15, and `at` were read before.
-use Rattle.std.specs.Prelude.{◌≡◌, ℕ, suc, ◌+◌, ◌<◌, ◌≤◌, ◌⊎◌, nat_le, if◌then◌else◌, List, [], ◌∷◌, ◌++◌, length, take, Option, Some, None, Result, Ok, Err}
+use Rattle.std.specs.Prelude.{◌≡◌, ℕ, suc, ◌+◌, ◌<◌, ◌≤◌, ◌⊎◌, Bool, false, nat_le, if◌then◌else◌, List, [], ◌∷◌, ◌++◌, length, take, Option, Some, None, Result, Ok, Err}
 use Rattle.x86_syntax.specs.declared.instr.Instr.{Instr}
 use Rattle.x86_syntax.specs.declared.table.Map.{Map}
 use Rattle.x86_syntax.specs.declared.table.Row.{Row}
+use Rattle.x86_syntax.specs.declared.prefixes.Group.{Group}
+use Rattle.x86_syntax.specs.declared.prefixes.Group.TheVariants.{Empty, Lock}
 use Rattle.x86_syntax.specs.declared.prefixes.Prefixes.{Prefixes}
 use Rattle.x86_syntax.specs.Opcodes.{row_of}
 use Rattle.x86_syntax.specs.Spelling.{row_number_size}
@@ -76,3 +78,12 @@ pub record IsLeastNumber (p : Prefixes) (map : Map) (code : ℕ) (n : ℕ) : Typ
   pub found : row_of p map code reg ≡ Some row
   pub size : row_number_size p row ≡ n
   pub least : (k : ℕ) (other : Row) → k < 8 → row_of p map code k ≡ Some other → n ≤ row_number_size p other
+
+-- how many bytes the shortest instruction has behind prefixes, and behind 0F
+abbrev pub shortest_behind : Group → ℕ
+shortest_behind Lock = 2
+shortest_behind _ = 1
+
+abbrev pub shortest_escaped : Group → Bool → ℕ
+shortest_escaped Empty false = 1
+shortest_escaped _ _ = 2
