@@ -3,6 +3,10 @@
 // Its contract: `decode` answers exactly the spelling at the front, or why there is none.
 #![tactic(auto)]
 
+
 mod fault;
+mod operands;
+mod prefix_bytes;
+
 
 pub use fault::DecodeFault;
