@@ -14,10 +14,10 @@ use Rattle.x86_syntax.specs.declared.table.Map.{Map}
 use Rattle.x86_syntax.specs.declared.table.Map.TheVariants.{One, Two, Three}
 use Rattle.x86_syntax.specs.declared.table.Row.{Row}
 use Rattle.x86_syntax.specs.Formats.{Format, Whole, Never, Byte, matched, number_then}
-use Rattle.x86_syntax.specs.Opcodes.{row_of, opcode_row, takes_modrm}
+use Rattle.x86_syntax.specs.Opcodes.{row_of, opcode_row, takes_modrm, may_escape, may_escape_twice}
 use Rattle.x86_syntax.specs.Spelling.{spelled_with, is_prefix, with_prefix, opcodes, escaped, opcode_then, behind, behind_modrm, ending, place_then, address_then, instr_of, Parts}
 use Rattle.x86_syntax.proofs.FormatLemmas.{never_matched}
-use Rattle.x86_syntax.proofs.TableLemmas.{prefixed, may_escape, may_escape_twice, two_dead, three_dead, lock_modrm, size_modrm, rep_modrm}
+use Rattle.x86_syntax.proofs.TableLemmas.{prefixed, two_dead, three_dead, lock_modrm, size_modrm, rep_modrm}
 use Rattle.x86_decoder.specs.Reading.{Begins, Needs, shortest_behind, shortest_escaped}
 use Rattle.x86_decoder.proofs.Shortest.{Shortest}
 

@@ -2,3 +2,4 @@ pub mod Readings
 pub mod Shortest
 pub mod Modrm
 pub mod Escapes
+pub mod Steps

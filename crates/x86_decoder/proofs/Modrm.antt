@@ -1,7 +1,8 @@
 -- The set behind an opcode with a ModRM byte.
-use Rattle.std.proofs.Common.{◌≡◌, ℕ, suc, zero, ◌+◌, ◌-◌, ◌*◌, ◌/◌, ◌%◌, ◌≤◌, ◌<◌, List, [], ◌∷◌, ◌++◌, Bool, true, false, length, refl, sym, ◌∙◌, ap, Option, Some, None, arith, cond}
+use Rattle.std.proofs.Common.{◌≡◌, ℕ, suc, zero, ◌+◌, ◌-◌, ◌*◌, ◌/◌, ◌%◌, ◌≤◌, ◌<◌, List, [], ◌∷◌, ◌++◌, Bool, true, false, length, refl, sym, ◌∙◌, ap, Option, Some, None, arith, cond, inl, inr, min}
 use Rattle.std.proofs.Math.Bool.{and-false}
-use Rattle.std.specs.Prelude.{◌==◌, ◌&&◌}
+use Rattle.std.specs.Prelude.{◌==◌, ◌&&◌, IfSome}
+use Rattle.std.proofs.lemmas.Bool.{cases_lt}
 use Rattle.x86_syntax.specs.declared.instr.Instr.{Instr}
 use Rattle.x86_syntax.specs.declared.instr.Place.{Place}
 use Rattle.x86_syntax.specs.declared.instr.Place.TheVariants as places
@@ -12,7 +13,8 @@ use Rattle.x86_syntax.specs.Formats.{Format, Whole, Never, Byte, matched}
 use Rattle.x86_syntax.specs.Opcodes.{row_of, opcode_row}
 use Rattle.x86_syntax.specs.Spelling.{mod_of, reg_of, rm_of, displacement_size, index_register, address_then, place_then, ending, behind_modrm, needs_memory, row_number_size}
 use Rattle.x86_syntax.proofs.FormatLemmas.{never_matched}
-use Rattle.x86_decoder.specs.Reading.{IsLeastNumber}
+use Rattle.x86_syntax.proofs.TableLemmas.{row_reg, row_found}
+use Rattle.x86_decoder.specs.Reading.{Begins, IsLeastBelow}
 use Rattle.x86_decoder.proofs.Shortest.{Shortest, ending_shortest, address_shortest, sib_shortest}
 
 place_least : (m k : ℕ) (go : Place → Format Instr) → ((place : Place) → Shortest (matched (go place)) k) → (x : List ℕ) (i : Instr) → matched (place_then m go) x ≡ Some i → k ≤ length x
@@ -37,7 +39,7 @@ at_eax p row code reg small =
     let rm : rm_of (8 * reg) ≡ 0 = omega arith in
     rw (mode, rm, and-false (needs_memory p row)) refl
 
-modrm_least : (p : Prefixes) (map : Map) (code n : ℕ) → IsLeastNumber p map code n → (x : List ℕ) (i : Instr) → matched (Byte (λ m. behind_modrm p (row_of p map code (reg_of m)) code m)) x ≡ Some i → 1 + n ≤ length x
+modrm_least : (p : Prefixes) (map : Map) (code n : ℕ) → IsLeastBelow 8 p map code n → (x : List ℕ) (i : Instr) → matched (Byte (λ m. behind_modrm p (row_of p map code (reg_of m)) code m)) x ≡ Some i → 1 + n ≤ length x
 unfolding matched behind_modrm
 modrm_least p map code n h [] i e = cc
 modrm_least p map code n h (m ∷ x) i e =
@@ -55,7 +57,7 @@ modrm_least p map code n h (m ∷ x) i e =
     ]) refl e in
     omega arith
 
-pub modrm_shortest : (p : Prefixes) (map : Map) (code n : ℕ) → IsLeastNumber p map code n → Shortest (matched (Byte (λ m. behind_modrm p (row_of p map code (reg_of m)) code m))) (1 + n)
+pub modrm_shortest : (p : Prefixes) (map : Map) (code n : ℕ) → IsLeastBelow 8 p map code n → Shortest (matched (Byte (λ m. behind_modrm p (row_of p map code (reg_of m)) code m))) (1 + n)
 unfolding matched
 modrm_shortest p map code n h =
     let m = 8 * h.reg in
@@ -69,3 +71,73 @@ modrm_shortest p map code n h =
       whole = whole;
       least = modrm_least p map code n h;
     }
+
+pub modrm_begins : (p : Prefixes) (map : Map) (code : ℕ) (first : Row) → opcode_row p map code ≡ Some first → Begins (matched (Byte (λ m. behind_modrm p (row_of p map code (reg_of m)) code m))) []
+unfolding matched
+modrm_begins p map code first found =
+    let order = row_reg p map code first found in
+    let other = row_found p map code first found in
+    let small : first.low < 8 = omega (arith, order.0, order.1) in
+    let m = 8 * first.low in
+    let s = address_shortest 0 0 (row_number_size p other.0) None _ (ending_shortest p other.0 code m) in
+    let reg : reg_of m ≡ first.low = omega arith in
+    let whole : matched (behind_modrm p (row_of p map code (reg_of m)) code m) s.string ≡ Some s.names = rw (reg, other.1, at_eax p other.0 code first.low small) s.whole in
+    record { rest = m ∷ s.string; more = omega arith; names = s.names; whole = whole }
+
+-- the row of the first reg field begins the search for the least number
+pub least_begins : (p : Prefixes) (map : Map) (code : ℕ) (first : Row) (n : ℕ) → opcode_row p map code ≡ Some first → IfSome (row_of p map code first.low) (λ row. n ≡ row_number_size p row) → IsLeastBelow 0 p map code n
+least_begins p map code first n found size =
+    let order = row_reg p map code first found in
+    let other = row_found p map code first found in
+    record {
+      reg = first.low;
+      small = omega (arith, order.0, order.1);
+      row = other.0;
+      found = other.1;
+      size = sym (rw other.1 at size);
+      least = λ k row below f. absurd (omega arith);
+    }
+
+pub least_goes_on : (p : Prefixes) (map : Map) (code : ℕ) (limit n size : ℕ) (row : Row) → limit < 8 → IsLeastBelow limit p map code n → row_of p map code limit ≡ Some row → size ≡ row_number_size p row → IsLeastBelow (limit + 1) p map code (min n size)
+least_goes_on p map code limit n size row small h found is_size =
+    elim (cases_lt n size) [
+      (inl lt) ↦
+        let same : min n size ≡ n = omega arith in
+        rw same (record {
+          reg = h.reg;
+          small = h.small;
+          row = h.row;
+          found = h.found;
+          size = h.size;
+          least = λ k other below f. elim (cases_lt k limit) [
+            (inl under) ↦ h.least k other under f
+            | (inr ge) ↦ (let same_k : k ≡ limit = omega arith in let f2 : row_of p map code limit ≡ Some other = rw same_k at f in let one : row ≡ other = cc in omega (arith, ap (row_number_size p) one))
+          ];
+        })
+      | (inr ge) ↦
+        let same : min n size ≡ size = omega arith in
+        rw same (record {
+          reg = limit;
+          small = small;
+          row = row;
+          found = found;
+          size = sym is_size;
+          least = λ k other below f. elim (cases_lt k limit) [
+            (inl under) ↦ omega (arith, h.least k other under f)
+            | (inr ge) ↦ (let same_k : k ≡ limit = omega arith in let f2 : row_of p map code limit ≡ Some other = rw same_k at f in let one : row ≡ other = cc in omega (arith, ap (row_number_size p) one))
+          ];
+        })
+    ]
+
+pub least_skips : (p : Prefixes) (map : Map) (code : ℕ) (limit n : ℕ) → IsLeastBelow limit p map code n → row_of p map code limit ≡ None → IsLeastBelow (limit + 1) p map code n
+least_skips p map code limit n h none = record {
+  reg = h.reg;
+  small = h.small;
+  row = h.row;
+  found = h.found;
+  size = h.size;
+  least = λ k row below f. elim (cases_lt k limit) [
+    (inl lt) ↦ h.least k row lt f
+    | (inr ge) ↦ (let same : k ≡ limit = omega arith in let f2 : row_of p map code limit ≡ Some row = rw same at f in cc)
+  ];
+}

@@ -13,7 +13,7 @@ use Rattle.x86_syntax.specs.Opcodes.{row_of, opcode_row}
 use Rattle.x86_syntax.specs.Spelling.{mod_of, reg_of, rm_of, displacement_size, index_register, address_then, place_then, ending, behind_modrm, needs_memory, row_number_size, instr_of, Parts}
 use Rattle.x86_syntax.proofs.FormatLemmas.{never_matched}
 use Rattle.x86_decoder.specs.declared.fault.DecodeFault.{DecodeFault}
-use Rattle.x86_decoder.specs.Reading.{Ends, Begins, Leaves, Lacks, Exceeds, Reads, Needs, IsLeastNumber}
+use Rattle.x86_decoder.specs.Reading.{Ends, Begins, Leaves, Lacks, Exceeds, Reads, Needs, IsLeastBelow}
 use Rattle.x86_decoder.proofs.Readings.{reads_byte}
 
 -- the shortest strings of the set have k bytes

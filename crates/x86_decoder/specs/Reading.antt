@@ -70,14 +70,14 @@ pub record Needs (lang : List ℕ → Option Instr) (bytes : List ℕ) (need : �
 abbrev pub fault_at : ℕ → DecodeFault
 fault_at n = if nat_le n 15 then Truncated else TooLong
 
--- the least number of bytes behind the ModRM byte in the rows of an opcode
-pub record IsLeastNumber (p : Prefixes) (map : Map) (code : ℕ) (n : ℕ) : Type 0 where
+-- the least number of bytes behind the address in the rows of an opcode with a reg field below the limit
+pub record IsLeastBelow (limit : ℕ) (p : Prefixes) (map : Map) (code : ℕ) (n : ℕ) : Type 0 where
   pub reg : ℕ
   pub small : reg < 8
   pub row : Row
   pub found : row_of p map code reg ≡ Some row
   pub size : row_number_size p row ≡ n
-  pub least : (k : ℕ) (other : Row) → k < 8 → row_of p map code k ≡ Some other → n ≤ row_number_size p other
+  pub least : (k : ℕ) (other : Row) → k < limit → row_of p map code k ≡ Some other → n ≤ row_number_size p other
 
 -- how many bytes the shortest instruction has behind prefixes, and behind 0F
 abbrev pub shortest_behind : Group → ℕ

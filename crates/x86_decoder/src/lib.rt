@@ -4,9 +4,11 @@
 #![tactic(auto)]
 
 
+mod decoder;
 mod fault;
 mod operands;
 mod prefix_bytes;
 
 
+pub use decoder::decode;
 pub use fault::DecodeFault;

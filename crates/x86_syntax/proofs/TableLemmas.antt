@@ -10,7 +10,8 @@ use Rattle.x86_syntax.specs.declared.table.Map.{Map}
 use Rattle.x86_syntax.specs.declared.table.Map.TheVariants.{One, Two, Three}
 use Rattle.x86_syntax.specs.declared.table.Row.{Row}
 use Rattle.x86_syntax.specs.declared.table.TheConstants.{ROWS}
-use Rattle.x86_syntax.specs.Opcodes.{is_map, has_code, has_reg, takes_modrm, is_listed, has_opcode, has_all, row_of, opcode_row}
+use Rattle.x86_syntax.specs.Spelling.{row_number_size}
+use Rattle.x86_syntax.specs.Opcodes.{is_map, has_code, has_reg, takes_modrm, is_listed, has_opcode, has_all, row_of, opcode_row, may_escape, may_escape_twice}
 
 -- what a search finds
 
@@ -122,16 +123,6 @@ is_one_or_unlisted p row = not (is_listed p row && not (is_map row.map One))
 is_unlisted_three : Prefixes → Row → Bool
 is_unlisted_three p row = not (is_listed p row && is_map row.map Three)
 
--- the prefixes behind which 0F, and 0F 1E, may stand
-abbrev pub may_escape : Group → Bool → Bool
-may_escape Empty size = true
-may_escape Rep false = true
-may_escape _ _ = false
-
-abbrev pub may_escape_twice : Group → Bool → Bool
-may_escape_twice Rep false = true
-may_escape_twice _ _ = false
-
 one_only : (group : Group) (size : Bool) (segment : Option ℕ) → may_escape group size ≡ false → list_all (is_one_or_unlisted (prefixed group size segment)) ROWS ≡ true
 unfolding is_one_or_unlisted
 one_only Empty size segment h = cc
@@ -173,3 +164,21 @@ three_dead group size segment code h =
     find_none (is_unlisted_three p) (has_opcode p Three code) ROWS (none_three group size segment h) (λ row fact holds.
     let parts = and_parts _ _ holds in
     refuted _ fact (and_from _ _ parts.0 (code_map Three code row parts.1)))
+
+-- a row has at most four bytes behind its address
+
+is_small_number : Bool → Row → Bool
+is_small_number size row = nat_le (row_number_size (prefixed Empty size None) row) 4
+
+all_small : (size : Bool) → list_all (is_small_number size) ROWS ≡ true
+unfolding is_small_number
+all_small true = refl
+all_small false = refl
+
+pub opcode_small : (p : Prefixes) (map : Map) (code : ℕ) (row : Row) → opcode_row p map code ≡ Some row → row_number_size p row ≤ 4
+unfolding opcode_row is_small_number
+opcode_small p map code row found = leb-true (row_number_size p row) 4 (find_all (is_small_number p.size) (has_opcode p map code) ROWS row (all_small p.size) found)
+
+pub row_small : (p : Prefixes) (map : Map) (code reg : ℕ) (row : Row) → row_of p map code reg ≡ Some row → row_number_size p row ≤ 4
+unfolding row_of is_small_number
+row_small p map code reg row found = leb-true (row_number_size p row) 4 (find_all (is_small_number p.size) (has_all p map code reg) ROWS row (all_small p.size) found)

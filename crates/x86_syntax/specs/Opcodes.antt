@@ -78,3 +78,13 @@ row_of p map code reg = find (has_all p map code reg) ROWS
 -- the first row of an opcode, behind these prefixes
 unfoldable pub opcode_row : Prefixes → Map → ℕ → Option Row
 opcode_row p map code = find (has_opcode p map code) ROWS
+
+-- the prefixes behind which an opcode behind 0F, and the one behind 0F 1E, is listed
+abbrev pub may_escape : Group → Bool → Bool
+may_escape Empty size = true
+may_escape Rep false = true
+may_escape _ _ = false
+
+abbrev pub may_escape_twice : Group → Bool → Bool
+may_escape_twice Rep false = true
+may_escape_twice _ _ = false
