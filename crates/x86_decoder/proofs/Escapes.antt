@@ -32,7 +32,7 @@ unfolding matched opcode_then behind
 modrm_follows p map code i all h =
     let P : Option Row → Type 0 = λ o. opcode_row p map code ≡ o → matched (behind p map code o) [] ≡ Some i → ⊥ in
     (elim (opcode_row p map code) as P [
-      None ↦ λ e h. cc
+      | None ↦ λ e h. cc
       | (Some row) ↦ λ e h. (let takes = all row e in let none : matched (behind p map code (Some row)) [] ≡ None = rw takes refl in cc)
     ]) refl h
 
@@ -109,7 +109,7 @@ second_dead group size segment h (code ∷ s) =
     let p = prefixed group size segment in
     let P : Bool → Type 0 = λ b. matched (cond b (Byte (λ last. opcode_then p Three last)) (opcode_then p Two code)) s ≡ None in
     elim (code == 0x1E) as P [
-      true ↦ third_dead group size segment (never_twice group size h) s
+      | true ↦ third_dead group size segment (never_twice group size h) s
       | false ↦ rw (two_dead group size segment code h) (never_matched {A = Instr} s)
     ]
 
@@ -125,7 +125,7 @@ lock_least size segment (b ∷ []) i h =
     let Q : Option Prefixes → Type 0 = λ o. option_and_then (λ q. spelled_with q []) o ≡ Some i → 2 ≤ 1 in
     let R : Bool → Type 0 = λ t. matched (cond t (Byte (λ second. escaped p second)) (opcode_then p One b)) [] ≡ Some i → 2 ≤ 1 in
     (elim (is_prefix b) as P [
-      true ↦ (elim (with_prefix p b) as Q [ None ↦ λ e. cc | (Some q) ↦ λ e. cc ])
+      | true ↦ (elim (with_prefix p b) as Q [ None ↦ λ e. cc | (Some q) ↦ λ e. cc ])
       | false ↦ (elim (b == 0x0F) as R [ true ↦ λ e. cc | false ↦ λ e. absurd (modrm_follows p One b i (lock_modrm size segment One b) e) ])
     ]) h
 

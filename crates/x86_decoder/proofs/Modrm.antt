@@ -24,9 +24,9 @@ place_least m k go each x i h =
     let P : Bool → Type 0 = λ b. matched (cond b (go (places.Register (rm_of m))) (memory (rm_of m == 4))) x ≡ Some i → k ≤ length x in
     let Q : Bool → Type 0 = λ b. matched (memory b) x ≡ Some i → k ≤ length x in
     (elim (mod_of m == 3) as P [
-      true ↦ λ e. (each (places.Register (rm_of m))).least x i e
+      | true ↦ λ e. (each (places.Register (rm_of m))).least x i e
       | false ↦ (elim (rm_of m == 4) as Q [
-        true ↦ λ e. omega (arith, (sib_shortest (mod_of m) k go each).least x i e)
+        | true ↦ λ e. omega (arith, (sib_shortest (mod_of m) k go each).least x i e)
         | false ↦ λ e. omega (arith, (address_shortest (mod_of m) (rm_of m) k None go each).least x i e)
       ])
     ]) h
@@ -46,14 +46,14 @@ modrm_least p map code n h (m ∷ x) i e =
     let P : Option Row → Type 0 = λ o. row_of p map code (reg_of m) ≡ o → matched (behind_modrm p o code m) x ≡ Some i → n ≤ length x in
     let Q : Row → Bool → Type 0 = λ row b. matched (cond b Never (place_then m (λ place. ending p row code m place))) x ≡ Some i → row_number_size p row ≤ length x in
     let bound : n ≤ length x = (elim (row_of p map code (reg_of m)) as P [
-      None ↦ λ found e. (let none = never_matched {A = Instr} x in cc)
+      | None ↦ λ found e. (let none = never_matched {A = Instr} x in cc)
       | (Some row) ↦ λ found e.
-        let least : n ≤ row_number_size p row = h.least (reg_of m) row (omega arith) found in
-        let long : row_number_size p row ≤ length x = (elim (needs_memory p row && (mod_of m == 3)) as (λ b. Q row b) [
-          true ↦ λ e. (let none = never_matched {A = Instr} x in cc)
-          | false ↦ λ e. place_least m (row_number_size p row) _ (ending_shortest p row code m) x i e
-        ]) e in
-        omega arith
+          let least : n ≤ row_number_size p row = h.least (reg_of m) row (omega arith) found in
+          let long : row_number_size p row ≤ length x = (elim (needs_memory p row && (mod_of m == 3)) as (λ b. Q row b) [
+            | true ↦ λ e. (let none = never_matched {A = Instr} x in cc)
+            | false ↦ λ e. place_least m (row_number_size p row) _ (ending_shortest p row code m) x i e
+          ]) e in
+          omega arith
     ]) refl e in
     omega arith
 
@@ -101,32 +101,32 @@ least_begins p map code first n found size =
 pub least_goes_on : (p : Prefixes) (map : Map) (code : ℕ) (limit n size : ℕ) (row : Row) → limit < 8 → IsLeastBelow limit p map code n → row_of p map code limit ≡ Some row → size ≡ row_number_size p row → IsLeastBelow (limit + 1) p map code (min n size)
 least_goes_on p map code limit n size row small h found is_size =
     elim (cases_lt n size) [
-      (inl lt) ↦
-        let same : min n size ≡ n = omega arith in
-        rw same (record {
-          reg = h.reg;
-          small = h.small;
-          row = h.row;
-          found = h.found;
-          size = h.size;
-          least = λ k other below f. elim (cases_lt k limit) [
-            (inl under) ↦ h.least k other under f
-            | (inr ge) ↦ (let same_k : k ≡ limit = omega arith in let f2 : row_of p map code limit ≡ Some other = rw same_k at f in let one : row ≡ other = cc in omega (arith, ap (row_number_size p) one))
-          ];
-        })
+      | (inl lt) ↦
+          let same : min n size ≡ n = omega arith in
+          rw same (record {
+            reg = h.reg;
+            small = h.small;
+            row = h.row;
+            found = h.found;
+            size = h.size;
+            least = λ k other below f. elim (cases_lt k limit) [
+              | (inl under) ↦ h.least k other under f
+              | (inr ge) ↦ (let same_k : k ≡ limit = omega arith in let f2 : row_of p map code limit ≡ Some other = rw same_k at f in let one : row ≡ other = cc in omega (arith, ap (row_number_size p) one))
+            ];
+          })
       | (inr ge) ↦
-        let same : min n size ≡ size = omega arith in
-        rw same (record {
-          reg = limit;
-          small = small;
-          row = row;
-          found = found;
-          size = sym is_size;
-          least = λ k other below f. elim (cases_lt k limit) [
-            (inl under) ↦ omega (arith, h.least k other under f)
-            | (inr ge) ↦ (let same_k : k ≡ limit = omega arith in let f2 : row_of p map code limit ≡ Some other = rw same_k at f in let one : row ≡ other = cc in omega (arith, ap (row_number_size p) one))
-          ];
-        })
+          let same : min n size ≡ size = omega arith in
+          rw same (record {
+            reg = limit;
+            small = small;
+            row = row;
+            found = found;
+            size = sym is_size;
+            least = λ k other below f. elim (cases_lt k limit) [
+              | (inl under) ↦ omega (arith, h.least k other under f)
+              | (inr ge) ↦ (let same_k : k ≡ limit = omega arith in let f2 : row_of p map code limit ≡ Some other = rw same_k at f in let one : row ≡ other = cc in omega (arith, ap (row_number_size p) one))
+            ];
+          })
     ]
 
 pub least_skips : (p : Prefixes) (map : Map) (code : ℕ) (limit n : ℕ) → IsLeastBelow limit p map code n → row_of p map code limit ≡ None → IsLeastBelow (limit + 1) p map code n
@@ -137,7 +137,7 @@ least_skips p map code limit n h none = record {
   found = h.found;
   size = h.size;
   least = λ k row below f. elim (cases_lt k limit) [
-    (inl lt) ↦ h.least k row lt f
+    | (inl lt) ↦ h.least k row lt f
     | (inr ge) ↦ (let same : k ≡ limit = omega arith in let f2 : row_of p map code limit ≡ Some row = rw same at f in cc)
   ];
 }

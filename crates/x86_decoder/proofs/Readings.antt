@@ -56,7 +56,7 @@ pub needs_reads : (lang : List ℕ → Option Instr) (bytes : List ℕ) (at need
 needs_reads lang bytes at need h =
     let P : Bool → Type 0 = λ t. nat_le (at + need) 15 ≡ t → Reads lang bytes at (Err (cond t Truncated TooLong)) in
     (elim (nat_le (at + need) 15) as P [
-      true ↦ λ e. record { begins = h.begins; short = omega (arith, leb-true (at + need) 15 e, h.size) }
+      | true ↦ λ e. record { begins = h.begins; short = omega (arith, leb-true (at + need) 15 e, h.size) }
       | false ↦ λ e. record { begins = h.begins; long = λ x i whole. omega (arith, leb-false (at + need) 15 e, h.least x i whole) }
     ]) refl
 
@@ -97,11 +97,11 @@ leaves_none : (bytes : List ℕ) (index : ℕ) → Leaves spelled (take 15 bytes
 leaves_none bytes index h i n d =
     let front = take 15 bytes in
     elim (cases_lt n (suc h.size)) [
-      (inl lt) ↦ no_shorter n h.size front i (omega arith) h.before (front_names bytes i n d)
+      | (inl lt) ↦ no_shorter n h.size front i (omega arith) h.before (front_names bytes i n d)
       | (inr ge) ↦
-        let none : spelled (take n front) ≡ None = rw (take-split (suc h.size) n front ge) (h.none (drop (suc h.size) (take n front))) in
-        let names : spelled (take n front) ≡ Some i = front_names bytes i n d in
-        cc
+          let none : spelled (take n front) ≡ None = rw (take-split (suc h.size) n front ge) (h.none (drop (suc h.size) (take n front))) in
+          let names : spelled (take n front) ≡ Some i = front_names bytes i n d in
+          cc
     ]
 
 -- an answer on the first 15 bytes is exact
@@ -145,11 +145,11 @@ reads_refused bytes (Err (NotListed index)) h =
       within = omega (arith, h.total, h.within);
       before = λ k lt. leaves_front front index h (k + 1) (omega (arith, h.total));
       there = λ rest.
-        let count : index + 1 ≡ suc h.size = omega (arith, h.total) in
-        let same : take (index + 1) front ≡ take (suc h.size) front = ap (λ k. take k front) count in
-        let named : spelled (take (suc h.size) front ++ rest.0) ≡ Some rest.1.0 = rw (sym same) rest.1.1 in
-        let none : spelled (take (suc h.size) front ++ rest.0) ≡ None = h.none rest.0 in
-        cc;
+          let count : index + 1 ≡ suc h.size = omega (arith, h.total) in
+          let same : take (index + 1) front ≡ take (suc h.size) front = ap (λ k. take k front) count in
+          let named : spelled (take (suc h.size) front ++ rest.0) ≡ Some rest.1.0 = rw (sym same) rest.1.1 in
+          let none : spelled (take (suc h.size) front ++ rest.0) ≡ None = h.none rest.0 in
+          cc;
     }
 reads_refused bytes (Err Truncated) h =
     let few : length bytes < 15 = omega (arith, h.short, h.begins.more, length-take 15 bytes) in
@@ -162,5 +162,6 @@ reads_refused bytes (Err Truncated) h =
       whole = (h.begins.names, rw (sym same) h.begins.whole);
     }
 reads_refused bytes (Err TooLong) h = (
-    (h.begins.rest, (h.begins.names, h.begins.whole)),
-    λ on. absurd (omega (arith, on.short, ap length (short_front bytes on.fewer), h.long on.rest on.whole.0 (rw (short_front bytes on.fewer) on.whole.1))))
+  (h.begins.rest, (h.begins.names, h.begins.whole)),
+  λ on. absurd (omega (arith, on.short, ap length (short_front bytes on.fewer), h.long on.rest on.whole.0 (rw (short_front bytes on.fewer) on.whole.1))),
+)

@@ -142,7 +142,7 @@ number_whole (suc n) f [] e = absurd (omega arith)
 number_whole (suc n) f (b ∷ s) e = number_whole n (λ high. f (b + 256 * high)) s (omega arith)
 
 pub ending_ends : (p : Prefixes) (row : Row) (code modrm : ℕ) (place : Place) (bytes : List ℕ) (at size : ℕ) (i : Instr) → size ≡ row_number_size p row → size ≤ length bytes
-  → i ≡ instr_of p row (record { code = code; modrm = modrm; place = place; number = number_of (take size bytes) }) → Ends (matched (ending p row code modrm place)) bytes at i (at + size)
+    → i ≡ instr_of p row (record { code = code; modrm = modrm; place = place; number = number_of (take size bytes) }) → Ends (matched (ending p row code modrm place)) bytes at i (at + size)
 unfolding ending matched
 ending_ends p row code modrm place bytes at size i is_size enough is_i = record {
   size = size;

@@ -218,6 +218,12 @@ pub ending_end : (p : Prefixes) (row : Row) (code m : ℕ) (place : Place) (byte
 ending_end p row code m place bytes at few = needs_reads _ bytes at (row_number_size p row) (ending_needs p row code m place bytes few)
 
 pub ending_whole : (p : Prefixes) (row : Row) (code m : ℕ) (place : Place) (bytes front : List ℕ) (at size : ℕ) (i : Instr) → size ≡ row_number_size p row → size ≤ length bytes → front ≡ take size bytes
-  → i ≡ instr_of p row (record { code = code; modrm = m; place = place; number = number_of front }) → Reads (matched (ending p row code m place)) bytes at (Ok (i, at + size))
+    → i ≡ instr_of p row (record { code = code; modrm = m; place = place; number = number_of front }) → Reads (matched (ending p row code m place)) bytes at (Ok (i, at + size))
 ending_whole p row code m place bytes front at size i is_size enough is_front is_i =
     ending_ends p row code m place bytes at size i is_size enough (is_i ∙ ap (λ xs. instr_of p row (record { code = code; modrm = m; place = place; number = number_of xs })) is_front)
+
+-- for the answers
+
+pub no_bytes : (bytes : List ℕ) → length bytes ≡ 0 → bytes ≡ []
+no_bytes [] e = refl
+no_bytes (b ∷ bytes) e = absurd (omega arith)

@@ -1,14 +1,17 @@
-ghost use Rattle.std.specs.Prelude.{◌≡◌, ℕ, ◌+◌, ◌^◌, ◌<◌, ◌≤◌, ◌∷◌, [], length, take, Some, IfOk, IfErr, IfSome};
+ghost use Rattle.std.specs.Prelude.{◌≡◌, ◌==◌, ◌&&◌, ℕ, ◌+◌, ◌^◌, ◌<◌, ◌≤◌, ◌∷◌, [], length, take, Some, IfOk, IfErr, IfSome};
 ghost use Rattle.std.specs.Result.{result_ok};
 ghost use Rattle.x86_syntax.specs.Formats.{Byte, matched};
 ghost use Rattle.x86_syntax.specs.Opcodes.{opcode_row, row_of, takes_modrm, may_escape, may_escape_twice};
-ghost use Rattle.x86_syntax.specs.Spelling.{spelled_with, opcodes, escaped, opcode_then, behind_modrm, place_then, address_then, ending, mod_of, reg_of, row_number_size};
+ghost use Rattle.x86_syntax.specs.Spelling.{spelled_with, opcodes, escaped, opcode_then, behind_modrm, place_then, address_then, ending, mod_of, needs_memory, reg_of, row_number_size};
 ghost use Rattle.x86_syntax.specs.Decodes.{Decodes, HasSpelling, decoded};
 ghost use Rattle.x86_decoder.specs.Refusals.{Refused};
 ghost use Rattle.x86_decoder.specs.Reading.{Reads, ReadsOrDead, IsLeastBelow, fault_at, shortest_behind, shortest_escaped};
 
 use crate::DecodeFault;
-use crate::operands::{Pieces, address, displacement_bytes, index_of, instr, number, reg, row_size, wants_memory};
+use crate::operands::{
+    Pieces, address, displacement_bytes, index_of, instr, number, reg, row_size, unnumbered,
+    wants_memory,
+};
 use crate::prefix_bytes::{add_prefix, is_prefix_byte};
 use x86_syntax::{Group, Instr, Map, Place, Prefixes, Row, find_opcode, find_row};
 
@@ -52,15 +55,17 @@ fn read(prefixes: Prefixes, bytes: &[u8], at: u8) -> Result<(Instr, u8), DecodeF
     requires { at + length bytes.now ≤ 15 }
     ensures { Reads (spelled_with prefixes) bytes.now at result }
 {
-    let Some((b, rest)) = bytes.split_first() else {
-        return Err(short(at, least_behind(prefixes.group)));
-    };
-    if !is_prefix_byte(*b) {
-        return read_opcode(prefixes, *b, rest, at + 1);
-    }
-    match add_prefix(prefixes, *b) {
-        None => Err(DecodeFault::NotListed { at }),
-        Some(more) => read(more, rest, at + 1),
+    match bytes.split_first() {
+        None => Err(short(at, least_behind(prefixes.group))),
+        Some((b, rest)) => {
+            if !is_prefix_byte(*b) {
+                return read_opcode(prefixes, *b, rest, at + 1);
+            }
+            match add_prefix(prefixes, *b) {
+                None => Err(DecodeFault::NotListed { at }),
+                Some(more) => read(more, rest, at + 1),
+            }
+        }
     }
 }
 
@@ -75,7 +80,12 @@ fn least_behind(group: Group) -> u8
 }
 
 /// Reads on behind the first byte of an opcode.
-fn read_opcode(prefixes: Prefixes, code: u8, bytes: &[u8], at: u8) -> Result<(Instr, u8), DecodeFault>
+fn read_opcode(
+    prefixes: Prefixes,
+    code: u8,
+    bytes: &[u8],
+    at: u8,
+) -> Result<(Instr, u8), DecodeFault>
     requires some { 1 ≤ at }
     requires few { at + length bytes.now ≤ 15 }
     ensures { ReadsOrDead (matched (opcodes prefixes code)) bytes.now at result }
@@ -96,13 +106,14 @@ fn read_second(prefixes: Prefixes, bytes: &[u8], at: u8) -> Result<(Instr, u8), 
     if !escapes(prefixes) {
         return Err(DecodeFault::NotListed { at: at - 1 });
     }
-    let Some((code, rest)) = bytes.split_first() else {
-        return Err(short(at, least_escaped(prefixes)));
-    };
-    if *code == 0x1E {
-        read_third(prefixes, rest, at + 1)
-    } else {
-        read_row(prefixes, Map::Two, *code, rest, at + 1)
+    match bytes.split_first() {
+        None => Err(short(at, least_escaped(prefixes))),
+        Some((code, rest)) => {
+            if *code == 0x1E {
+                return read_third(prefixes, rest, at + 1);
+            }
+            read_row(prefixes, Map::Two, *code, rest, at + 1)
+        }
     }
 }
 
@@ -137,10 +148,10 @@ fn read_third(prefixes: Prefixes, bytes: &[u8], at: u8) -> Result<(Instr, u8), D
     if !escapes_twice(prefixes) {
         return Err(DecodeFault::NotListed { at: at - 1 });
     }
-    let Some((code, rest)) = bytes.split_first() else {
-        return Err(short(at, 1));
-    };
-    read_row(prefixes, Map::Three, *code, rest, at + 1)
+    match bytes.split_first() {
+        None => Err(short(at, 1)),
+        Some((code, rest)) => read_row(prefixes, Map::Three, *code, rest, at + 1),
+    }
 }
 
 /// Whether the opcode behind 0F 1E is listed behind these prefixes.
@@ -151,42 +162,66 @@ fn escapes_twice(prefixes: Prefixes) -> bool
 }
 
 /// Reads on behind an opcode of a map.
-fn read_row(prefixes: Prefixes, map: Map, code: u8, bytes: &[u8], at: u8) -> Result<(Instr, u8), DecodeFault>
+fn read_row(
+    prefixes: Prefixes,
+    map: Map,
+    code: u8,
+    bytes: &[u8],
+    at: u8,
+) -> Result<(Instr, u8), DecodeFault>
     requires some { 1 ≤ at }
     requires few { at + length bytes.now ≤ 15 }
     ensures { ReadsOrDead (matched (opcode_then prefixes map code)) bytes.now at result }
 {
-    let Some(row) = find_opcode(prefixes, map, code) else {
-        return Err(DecodeFault::NotListed { at: at - 1 });
-    };
-    if row.takes_modrm() {
-        return read_modrm(prefixes, map, code, row, bytes, at);
+    match find_opcode(prefixes, map, code) {
+        None => Err(DecodeFault::NotListed { at: at - 1 }),
+        Some(row) => {
+            if row.takes_modrm() {
+                return read_modrm(prefixes, map, code, row, bytes, at);
+            }
+            read_ending(
+                prefixes,
+                row,
+                unnumbered(code, 0, Place::Register(0)),
+                bytes,
+                at,
+            )
+        }
     }
-    let pieces = Pieces {
-        code,
-        modrm: 0,
-        place: Place::Register(0),
-        number: 0,
-    };
-    read_ending(prefixes, row, pieces, bytes, at)
 }
 
 /// Reads on behind an opcode with a ModRM byte, of which `first` is a row.
-fn read_modrm(prefixes: Prefixes, map: Map, code: u8, first: Row, bytes: &[u8], at: u8) -> Result<(Instr, u8), DecodeFault>
+fn read_modrm(
+    prefixes: Prefixes,
+    map: Map,
+    code: u8,
+    first: Row,
+    bytes: &[u8],
+    at: u8,
+) -> Result<(Instr, u8), DecodeFault>
     requires row { opcode_row prefixes map code ≡ Some first }
     requires few { at + length bytes.now ≤ 15 }
     ensures { Reads (matched (Byte (λ m. behind_modrm prefixes (row_of prefixes map code (reg_of m)) code m))) bytes.now at result }
 {
-    let Some((modrm, rest)) = bytes.split_first() else {
-        return Err(short(at, 1 + least_number(prefixes, map, code, first)));
-    };
-    let Some(row) = find_row(prefixes, map, code, reg(*modrm)) else {
-        return Err(DecodeFault::NotListed { at });
-    };
-    if wants_memory(prefixes, row) && *modrm / 64 == 3 {
-        return Err(DecodeFault::NotListed { at });
+    match bytes.split_first() {
+        None => Err(short(at, 1 + least_number(prefixes, map, code, first))),
+        Some((modrm, rest)) => match find_row(prefixes, map, code, reg(*modrm)) {
+            None => Err(DecodeFault::NotListed { at }),
+            Some(row) => {
+                if is_wrong_place(prefixes, row, *modrm) {
+                    return Err(DecodeFault::NotListed { at });
+                }
+                read_place(prefixes, row, code, *modrm, rest, at + 1)
+            }
+        },
     }
-    read_place(prefixes, row, code, *modrm, rest, at + 1)
+}
+
+/// Whether the ModRM byte names a register where only memory is listed.
+fn is_wrong_place(prefixes: Prefixes, row: Row, modrm: u8) -> bool
+    ensures { result ≡ (needs_memory prefixes row && (mod_of modrm == 3)) }
+{
+    wants_memory(prefixes, row) && modrm / 64 == 3
 }
 
 /// The least number of bytes behind the address in the rows of an opcode.
@@ -197,11 +232,21 @@ fn least_number(prefixes: Prefixes, map: Map, code: u8, first: Row) -> u8
 {
     let mut least = size_at(prefixes, map, code, first.low);
     for reg in 0..8u8 {
-        if let Some(row) = find_row(prefixes, map, code, reg) {
-            least = least.min(row_size(prefixes, row));
-        }
+        least = lesser(prefixes, map, code, reg, least);
     }
     least
+}
+
+/// The lesser of a number and the number of bytes behind the address in the row with this reg field.
+fn lesser(prefixes: Prefixes, map: Map, code: u8, reg: u8, least: u8) -> u8
+    requires { reg < 8 }
+    ensures least { IsLeastBelow reg prefixes map code least → IsLeastBelow (reg + 1) prefixes map code result }
+    ensures bound { result ≤ least }
+{
+    match find_row(prefixes, map, code, reg) {
+        Some(row) => least.min(row_size(prefixes, row)),
+        None => least,
+    }
 }
 
 /// The number of bytes behind the address in the row with this reg field, if there is one.
@@ -216,7 +261,14 @@ fn size_at(prefixes: Prefixes, map: Map, code: u8, reg: u8) -> u8
 }
 
 /// Reads on behind a ModRM byte.
-fn read_place(prefixes: Prefixes, row: Row, code: u8, modrm: u8, bytes: &[u8], at: u8) -> Result<(Instr, u8), DecodeFault>
+fn read_place(
+    prefixes: Prefixes,
+    row: Row,
+    code: u8,
+    modrm: u8,
+    bytes: &[u8],
+    at: u8,
+) -> Result<(Instr, u8), DecodeFault>
     requires small { row_number_size prefixes row ≤ 4 }
     requires few { at + length bytes.now ≤ 15 }
     ensures { Reads (matched (place_then modrm (λ place. ending prefixes row code modrm place))) bytes.now at result }
@@ -224,56 +276,88 @@ fn read_place(prefixes: Prefixes, row: Row, code: u8, modrm: u8, bytes: &[u8], a
     let mode = modrm / 64;
     let rm = modrm % 8;
     if mode == 3 {
-        let pieces = Pieces {
-            code,
-            modrm,
-            place: Place::Register(rm),
-            number: 0,
-        };
-        return read_ending(prefixes, row, pieces, bytes, at);
+        return read_ending(
+            prefixes,
+            row,
+            unnumbered(code, modrm, Place::Register(rm)),
+            bytes,
+            at,
+        );
     }
     if rm != 4 {
         return read_address(prefixes, row, code, modrm, rm, None, bytes, at);
     }
-    let Some((sib, rest)) = bytes.split_first() else {
-        return Err(short(at, 1 + (displacement_bytes(mode, 0) + row_size(prefixes, row))));
-    };
-    read_address(prefixes, row, code, modrm, *sib % 8, index_of(*sib), rest, at + 1)
+    match bytes.split_first() {
+        None => Err(short(
+            at,
+            1 + (displacement_bytes(mode, 0) + row_size(prefixes, row)),
+        )),
+        Some((sib, rest)) => read_address(
+            prefixes,
+            row,
+            code,
+            modrm,
+            *sib % 8,
+            index_of(*sib),
+            rest,
+            at + 1,
+        ),
+    }
 }
 
 /// Reads on where the displacement of an address stands.
-fn read_address(prefixes: Prefixes, row: Row, code: u8, modrm: u8, base: u8, index: Option<(u8, u8)>, bytes: &[u8], at: u8) -> Result<(Instr, u8), DecodeFault>
+fn read_address(
+    prefixes: Prefixes,
+    row: Row,
+    code: u8,
+    modrm: u8,
+    base: u8,
+    index: Option<(u8, u8)>,
+    bytes: &[u8],
+    at: u8,
+) -> Result<(Instr, u8), DecodeFault>
     requires small { row_number_size prefixes row ≤ 4 }
     requires few { at + length bytes.now ≤ 15 }
     ensures { Reads (matched (address_then (mod_of modrm) base index (λ place. ending prefixes row code modrm place))) bytes.now at result }
 {
     let mode = modrm / 64;
     let size = displacement_bytes(mode, base);
-    let Some((front, rest)) = bytes.split_at_checked(usize::from(size)) else {
-        return Err(short(at, size + row_size(prefixes, row)));
-    };
-    let pieces = Pieces {
-        code,
-        modrm,
-        place: address(mode, base, index, number(front)),
-        number: 0,
-    };
-    read_ending(prefixes, row, pieces, rest, at + size)
+    match bytes.split_at_checked(usize::from(size)) {
+        None => Err(short(at, size + row_size(prefixes, row))),
+        Some((front, rest)) => {
+            let place = address(mode, base, index, number(front));
+            read_ending(
+                prefixes,
+                row,
+                unnumbered(code, modrm, place),
+                rest,
+                at + size,
+            )
+        }
+    }
 }
 
 /// Reads on where the number of an immediate, an offset or an absolute address stands.
-fn read_ending(prefixes: Prefixes, row: Row, pieces: Pieces, bytes: &[u8], at: u8) -> Result<(Instr, u8), DecodeFault>
+fn read_ending(
+    prefixes: Prefixes,
+    row: Row,
+    pieces: Pieces,
+    bytes: &[u8],
+    at: u8,
+) -> Result<(Instr, u8), DecodeFault>
     requires small { row_number_size prefixes row ≤ 4 }
     requires few { at + length bytes.now ≤ 15 }
     ensures { Reads (matched (ending prefixes row pieces.code pieces.modrm pieces.place)) bytes.now at result }
 {
     let size = row_size(prefixes, row);
-    let Some((front, _)) = bytes.split_at_checked(usize::from(size)) else {
-        return Err(short(at, size));
-    };
-    let pieces = Pieces {
-        number: number(front),
-        ..pieces
-    };
-    Ok((instr(prefixes, row, pieces), at + size))
+    match bytes.split_at_checked(usize::from(size)) {
+        None => Err(short(at, size)),
+        Some((front, _)) => {
+            let pieces = Pieces {
+                number: number(front),
+                ..pieces
+            };
+            Ok((instr(prefixes, row, pieces), at + size))
+        }
+    }
 }

@@ -3,12 +3,10 @@
 // Its contract: `decode` answers exactly the spelling at the front, or why there is none.
 #![tactic(auto)]
 
-
 mod decoder;
 mod fault;
 mod operands;
 mod prefix_bytes;
-
 
 pub use decoder::decode;
 pub use fault::DecodeFault;

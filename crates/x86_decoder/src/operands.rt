@@ -22,6 +22,18 @@ pub struct Pieces {
     pub number: u32,
 }
 
+/// The pieces before a number is read.
+pub fn unnumbered(code: u8, modrm: u8, place: Place) -> Pieces
+    ensures { result ≡ record { code = code; modrm = modrm; place = place; number = 0 } }
+{
+    Pieces {
+        code,
+        modrm,
+        place,
+        number: 0,
+    }
+}
+
 /// The instruction of a row.
 #[tactic(auto, unfolding(x86_syntax::specs::Spelling::instr_of))]
 pub fn instr(prefixes: Prefixes, row: Row, pieces: Pieces) -> Instr
@@ -29,7 +41,12 @@ pub fn instr(prefixes: Prefixes, row: Row, pieces: Pieces) -> Instr
 {
     let segment = segment(prefixes.segment);
     Instr {
-        name: name_at(row.name, prefixes.size, place_of(row, pieces.code), reg(pieces.modrm)),
+        name: name_at(
+            row.name,
+            prefixes.size,
+            place_of(row, pieces.code),
+            reg(pieces.modrm),
+        ),
         w: width_of(prefixes, row.forms.first),
         ops: operands_of(prefixes, row, pieces),
         seg: match row.forms.first {
@@ -63,13 +80,7 @@ fn name_at(name: Name, size: bool, place: u8, reg: u8) -> Mnemonic
 {
     match name {
         Name::All(name) => name,
-        Name::BySize(long, word) => {
-            if size {
-                word
-            } else {
-                long
-            }
-        }
+        Name::BySize(long, word) => { if size { word } else { long } }
         Name::Arithmetic => arithmetic_name(place),
         Name::J => Mnemonic::J(Cond(place)),
         Name::Set => Mnemonic::Set(Cond(place)),
@@ -148,7 +159,16 @@ fn width_of(prefixes: Prefixes, form: Form) -> Width
     ensures { result ≡ form_width prefixes form }
 {
     match form {
-        Form::Eb | Form::Gb | Form::Ab | Form::Rb | Form::Ib | Form::One | Form::Cl | Form::Ob | Form::Xb | Form::Yb => Width::B8,
+        Form::Eb
+        | Form::Gb
+        | Form::Ab
+        | Form::Rb
+        | Form::Ib
+        | Form::One
+        | Form::Cl
+        | Form::Ob
+        | Form::Xb
+        | Form::Yb => Width::B8,
         Form::Ew | Form::Iw => Width::B16,
         Form::Nothing | Form::J8 | Form::J32 => Width::B32,
         _ => word(prefixes),
@@ -163,13 +183,7 @@ fn size_of(prefixes: Prefixes, form: Form) -> u8
     match form {
         Form::Ib | Form::Is | Form::J8 => 1,
         Form::Iw => 2,
-        Form::Iv => {
-            if prefixes.size {
-                2
-            } else {
-                4
-            }
-        }
+        Form::Iv => { if prefixes.size { 2 } else { 4 } }
         Form::J32 | Form::Ob | Form::Ov => 4,
         _ => 0,
     }

@@ -44,7 +44,10 @@ fn add_group(prefixes: Prefixes, new: Group) -> Option<Prefixes>
     ensures { result ≡ grouped prefixes new }
 {
     match (prefixes.group, new) {
-        (Group::Empty, _) | (Group::Lock, Group::Lock) | (Group::Repne, Group::Repne) | (Group::Rep, Group::Rep) => Some(Prefixes {
+        (Group::Empty, _)
+        | (Group::Lock, Group::Lock)
+        | (Group::Repne, Group::Repne)
+        | (Group::Rep, Group::Rep) => Some(Prefixes {
             group: new,
             ..prefixes
         }),
@@ -60,12 +63,6 @@ fn add_segment(prefixes: Prefixes, b: u8) -> Option<Prefixes>
             segment: Some(b),
             ..prefixes
         }),
-        Some(old) => {
-            if old == b {
-                Some(prefixes)
-            } else {
-                None
-            }
-        }
+        Some(old) => { if old == b { Some(prefixes) } else { None } }
     }
 }
