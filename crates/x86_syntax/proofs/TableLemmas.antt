@@ -21,7 +21,7 @@ find_holds {X} test (y ∷ xs) x found =
     let P : Bool → Type 0 = λ b. test y ≡ b → cond b (Some y) (find test xs) ≡ Some x → test x ≡ true in
     (elim (test y) as P [ true ↦ λ e f. (let same : y ≡ x = cc in rw (sym same) e) | false ↦ λ e f. find_holds test xs x f ]) refl found
 
-find_all : {X : Type 0} (fact test : X → Bool) (xs : List X) (x : X) → list_all fact xs ≡ true → find test xs ≡ Some x → fact x ≡ true
+pub find_all : {X : Type 0} (fact test : X → Bool) (xs : List X) (x : X) → list_all fact xs ≡ true → find test xs ≡ Some x → fact x ≡ true
 find_all fact test [] x all found = cc
 find_all {X} fact test (y ∷ xs) x all found =
     let P : Bool → Type 0 = λ b. cond b (Some y) (find test xs) ≡ Some x → fact x ≡ true in

@@ -2,3 +2,4 @@ pub mod Formats
 pub mod Opcodes
 pub mod Spelling
 pub mod Decodes
+pub mod Text
