@@ -1,6 +1,6 @@
 -- The sets behind 0F and 0F 1E, and behind prefixes.
-use Rattle.std.proofs.Common.{◌≡◌, ℕ, suc, zero, ◌+◌, ◌-◌, ◌*◌, ◌/◌, ◌%◌, ◌≤◌, ◌<◌, List, [], ◌∷◌, ◌++◌, Bool, true, false, length, refl, sym, ◌∙◌, ap, Option, Some, None, arith, cond}
-use Rattle.std.specs.Prelude.{◌==◌, ◌&&◌}
+use Rattle.std.proofs.Common.{◌≡◌, ℕ, ◌≤◌, List, [], ◌∷◌, Bool, true, false, length, refl, Option, Some, None, arith, cond}
+use Rattle.std.specs.Prelude.{◌==◌}
 use Rattle.std.specs.Option.{option_and_then}
 use Rattle.x86_syntax.specs.declared.instr.Instr.{Instr}
 use Rattle.bit_words.specs.declared.width.Width.TheVariants.{B32}
@@ -13,12 +13,12 @@ use Rattle.x86_syntax.specs.declared.prefixes.Prefixes.{Prefixes}
 use Rattle.x86_syntax.specs.declared.table.Map.{Map}
 use Rattle.x86_syntax.specs.declared.table.Map.TheVariants.{One, Two, Three}
 use Rattle.x86_syntax.specs.declared.table.Row.{Row}
-use Rattle.x86_syntax.specs.Formats.{Format, Whole, Never, Byte, matched, number_then}
+use Rattle.x86_syntax.specs.Formats.{Format, Byte, matched}
 use Rattle.x86_syntax.specs.Opcodes.{row_of, opcode_row, takes_modrm, may_escape, may_escape_twice}
-use Rattle.x86_syntax.specs.Spelling.{spelled_with, is_prefix, with_prefix, opcodes, escaped, opcode_then, behind, behind_modrm, ending, place_then, address_then, instr_of, Parts}
+use Rattle.x86_syntax.specs.Spelling.{spelled_with, is_prefix, with_prefix, opcodes, escaped, opcode_then, behind, behind_modrm, ending, place_then, address_then}
 use Rattle.x86_syntax.proofs.FormatLemmas.{never_matched}
 use Rattle.x86_syntax.proofs.TableLemmas.{prefixed, two_dead, three_dead, lock_modrm, size_modrm, rep_modrm}
-use Rattle.x86_decoder.specs.Reading.{Begins, Needs, shortest_behind, shortest_escaped}
+use Rattle.x86_decoder.specs.Reading.{shortest_behind, shortest_escaped}
 use Rattle.x86_decoder.proofs.Shortest.{Shortest}
 
 -- an instruction, for a set that has the string

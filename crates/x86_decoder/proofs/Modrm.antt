@@ -1,5 +1,5 @@
 -- The set behind an opcode with a ModRM byte.
-use Rattle.std.proofs.Common.{◌≡◌, ℕ, suc, zero, ◌+◌, ◌-◌, ◌*◌, ◌/◌, ◌%◌, ◌≤◌, ◌<◌, List, [], ◌∷◌, ◌++◌, Bool, true, false, length, refl, sym, ◌∙◌, ap, Option, Some, None, arith, cond, inl, inr, min}
+use Rattle.std.proofs.Common.{◌≡◌, ℕ, ◌+◌, ◌*◌, ◌≤◌, ◌<◌, List, [], ◌∷◌, Bool, true, false, length, refl, sym, ap, Option, Some, None, arith, cond, inl, inr, min}
 use Rattle.std.proofs.Math.Bool.{and-false}
 use Rattle.std.specs.Prelude.{◌==◌, ◌&&◌, IfSome}
 use Rattle.std.proofs.lemmas.Bool.{cases_lt}
@@ -9,9 +9,9 @@ use Rattle.x86_syntax.specs.declared.instr.Place.TheVariants as places
 use Rattle.x86_syntax.specs.declared.prefixes.Prefixes.{Prefixes}
 use Rattle.x86_syntax.specs.declared.table.Map.{Map}
 use Rattle.x86_syntax.specs.declared.table.Row.{Row}
-use Rattle.x86_syntax.specs.Formats.{Format, Whole, Never, Byte, matched}
+use Rattle.x86_syntax.specs.Formats.{Format, Never, Byte, matched}
 use Rattle.x86_syntax.specs.Opcodes.{row_of, opcode_row}
-use Rattle.x86_syntax.specs.Spelling.{mod_of, reg_of, rm_of, displacement_size, index_register, address_then, place_then, ending, behind_modrm, needs_memory, row_number_size}
+use Rattle.x86_syntax.specs.Spelling.{mod_of, reg_of, rm_of, index_register, address_then, place_then, ending, behind_modrm, needs_memory, row_number_size}
 use Rattle.x86_syntax.proofs.FormatLemmas.{never_matched}
 use Rattle.x86_syntax.proofs.TableLemmas.{row_reg, row_found}
 use Rattle.x86_decoder.specs.Reading.{Begins, IsLeastBelow}

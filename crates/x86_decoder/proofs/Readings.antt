@@ -1,19 +1,19 @@
 -- An answer on what is still to be read, carried back over the bytes before it.
-use Rattle.std.proofs.Common.{◌≡◌, ℕ, suc, zero, ◌+◌, ◌-◌, ◌≤◌, ◌<◌, List, [], ◌∷◌, ◌++◌, ◌⊎◌, inl, inr, Bool, true, false, length, take, drop, refl, sym, ◌∙◌, ap, Option, Some, None, Result, Ok, Err, arith, cond, append_assoc, length-append}
-use Rattle.std.proofs.lemmas.List.{length-take, length-drop}
+use Rattle.std.proofs.Common.{◌≡◌, ℕ, suc, zero, ◌+◌, ◌≤◌, ◌<◌, List, [], ◌∷◌, ◌++◌, inl, inr, Bool, true, false, length, take, drop, refl, sym, ◌∙◌, ap, Option, Some, None, Result, Ok, Err, arith, cond, append_assoc, length-append}
+use Rattle.std.proofs.lemmas.List.{length-take}
 use Rattle.std.proofs.lemmas.Bool.{cases_lt, leb-true, leb-false}
 use Rattle.std.proofs.Math.Seq.{take-length}
 use Rattle.std.specs.Prelude.{IfOk, IfErr, nat_le}
 use Rattle.std.specs.Result.{result_ok}
 use Rattle.x86_syntax.specs.declared.instr.Instr.{Instr}
-use Rattle.x86_syntax.specs.Spelling.{spelled, spelled_with, no_prefixes}
+use Rattle.x86_syntax.specs.Spelling.{spelled, no_prefixes}
 use Rattle.x86_syntax.specs.Decodes.{Decodes, HasSpelling, decoded}
 use Rattle.x86_syntax.proofs.SpellingLemmas.{prefix_law}
 use Rattle.x86_syntax.proofs.DecodesLemmas.{take-split, decodes_computes, decoded_finds, decodes_spelling, none_decoded}
 use Rattle.x86_decoder.specs.declared.fault.DecodeFault.{DecodeFault}
 use Rattle.x86_decoder.specs.declared.fault.DecodeFault.TheVariants.{NotListed, Truncated, TooLong}
-use Rattle.x86_decoder.specs.Refusals.{IsSpelling, IsFront, LeavesAt, GoesOn, Refused}
-use Rattle.x86_decoder.specs.Reading.{Ends, Begins, Leaves, Lacks, Exceeds, Reads, IsDead, ReadsOrDead, Needs, fault_at}
+use Rattle.x86_decoder.specs.Refusals.{IsFront, Refused}
+use Rattle.x86_decoder.specs.Reading.{Begins, Leaves, Reads, ReadsOrDead, Needs, fault_at}
 
 begins_byte : (lang next : List ℕ → Option Instr) (b : ℕ) (bytes : List ℕ) → ((s : List ℕ) → lang (b ∷ s) ≡ next s) → Begins next bytes → Begins lang (b ∷ bytes)
 begins_byte lang next b bytes step h = record { rest = h.rest; more = h.more; names = h.names; whole = step (bytes ++ h.rest) ∙ h.whole }

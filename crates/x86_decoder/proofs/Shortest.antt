@@ -1,19 +1,15 @@
 -- The shortest strings of the sets behind an opcode.
-use Rattle.std.proofs.Common.{◌≡◌, ℕ, suc, zero, ◌+◌, ◌-◌, ◌*◌, ◌/◌, ◌%◌, ◌≤◌, ◌<◌, List, [], ◌∷◌, ◌++◌, ◌⊎◌, inl, inr, Bool, true, false, length, take, drop, refl, sym, ◌∙◌, ap, Option, Some, None, Result, Ok, Err, arith, cond, length-append, append_assoc, replicate}
+use Rattle.std.proofs.Common.{◌≡◌, ℕ, suc, zero, ◌+◌, ◌-◌, ◌*◌, ◌≤◌, ◌<◌, List, [], ◌∷◌, ◌++◌, Bool, true, false, length, take, drop, refl, sym, ◌∙◌, ap, Option, Some, Result, arith, cond, length-append, append_assoc, replicate}
 use Rattle.std.proofs.lemmas.List.{length-take-le, length-replicate}
-use Rattle.std.specs.Prelude.{◌==◌, ◌&&◌}
+use Rattle.std.specs.Prelude.{◌==◌}
 use Rattle.x86_syntax.specs.declared.instr.Instr.{Instr}
 use Rattle.x86_syntax.specs.declared.instr.Place.{Place}
-use Rattle.x86_syntax.specs.declared.instr.Place.TheVariants as places
 use Rattle.x86_syntax.specs.declared.prefixes.Prefixes.{Prefixes}
-use Rattle.x86_syntax.specs.declared.table.Map.{Map}
 use Rattle.x86_syntax.specs.declared.table.Row.{Row}
-use Rattle.x86_syntax.specs.Formats.{Format, Whole, Never, Byte, matched, number_then, number_of}
-use Rattle.x86_syntax.specs.Opcodes.{row_of, opcode_row}
-use Rattle.x86_syntax.specs.Spelling.{mod_of, reg_of, rm_of, displacement_size, index_register, address_then, place_then, ending, behind_modrm, needs_memory, row_number_size, instr_of, Parts}
-use Rattle.x86_syntax.proofs.FormatLemmas.{never_matched}
+use Rattle.x86_syntax.specs.Formats.{Format, Whole, Byte, matched, number_then, number_of}
+use Rattle.x86_syntax.specs.Spelling.{rm_of, displacement_size, index_register, address_then, ending, row_number_size, instr_of}
 use Rattle.x86_decoder.specs.declared.fault.DecodeFault.{DecodeFault}
-use Rattle.x86_decoder.specs.Reading.{Ends, Begins, Leaves, Lacks, Exceeds, Reads, Needs, IsLeastBelow}
+use Rattle.x86_decoder.specs.Reading.{Ends, Reads, Needs}
 use Rattle.x86_decoder.proofs.Readings.{reads_byte}
 
 -- the shortest strings of the set have k bytes

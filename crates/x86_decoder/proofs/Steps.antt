@@ -1,6 +1,6 @@
 -- The decoder's steps: what an answer behind a byte says of the bytes before it.
-use Rattle.std.proofs.Common.{◌≡◌, ◌≢◌, ℕ, suc, zero, ◌+◌, ◌-◌, ◌*◌, ◌/◌, ◌%◌, ◌≤◌, ◌<◌, List, [], ◌∷◌, ◌++◌, ◌⊎◌, inl, inr, Bool, true, false, length, take, drop, refl, sym, ◌∙◌, ap, Option, Some, None, Result, Ok, Err, arith, cond}
-use Rattle.std.proofs.lemmas.Bool.{ne_eqb, and_from}
+use Rattle.std.proofs.Common.{◌≡◌, ◌≢◌, ℕ, ◌+◌, ◌-◌, ◌≤◌, ◌<◌, List, [], ◌∷◌, inl, inr, Bool, true, false, length, take, drop, refl, ◌∙◌, ap, Option, Some, None, Result, Ok, Err, arith}
+use Rattle.std.proofs.lemmas.Bool.{ne_eqb}
 use Rattle.std.specs.Prelude.{◌==◌, ◌&&◌}
 use Rattle.x86_syntax.specs.declared.instr.Instr.{Instr}
 use Rattle.x86_syntax.specs.declared.instr.Place.{Place}
@@ -11,16 +11,16 @@ use Rattle.x86_syntax.specs.declared.prefixes.Prefixes.{Prefixes}
 use Rattle.x86_syntax.specs.declared.table.Map.{Map}
 use Rattle.x86_syntax.specs.declared.table.Map.TheVariants.{One, Two, Three}
 use Rattle.x86_syntax.specs.declared.table.Row.{Row}
-use Rattle.x86_syntax.specs.Formats.{Format, Whole, Never, Byte, matched, number_then, number_of}
+use Rattle.x86_syntax.specs.Formats.{Format, Byte, matched, number_of}
 use Rattle.x86_syntax.specs.Opcodes.{row_of, opcode_row, takes_modrm, may_escape, may_escape_twice}
-use Rattle.x86_syntax.specs.Spelling.{spelled_with, is_prefix, with_prefix, opcodes, escaped, opcode_then, behind, behind_modrm, needs_memory, ending, place_then, address_then, index_register, displacement_size, mod_of, reg_of, rm_of, row_number_size, instr_of, Parts}
+use Rattle.x86_syntax.specs.Spelling.{spelled_with, is_prefix, with_prefix, opcodes, escaped, opcode_then, behind, behind_modrm, needs_memory, ending, place_then, address_then, index_register, displacement_size, mod_of, reg_of, rm_of, row_number_size, instr_of}
 use Rattle.x86_syntax.proofs.FormatLemmas.{never_matched}
 use Rattle.x86_syntax.proofs.SpellingLemmas.{spelled_prefix, spelled_refused, spelled_opcode}
 use Rattle.x86_syntax.proofs.TableLemmas.{prefixed}
 use Rattle.x86_decoder.specs.declared.fault.DecodeFault.{DecodeFault}
-use Rattle.x86_decoder.specs.declared.fault.DecodeFault.TheVariants.{NotListed, Truncated, TooLong}
+use Rattle.x86_decoder.specs.declared.fault.DecodeFault.TheVariants.{NotListed}
 use Rattle.x86_decoder.specs.Pieces.{address_place}
-use Rattle.x86_decoder.specs.Reading.{Ends, Begins, Needs, Reads, ReadsOrDead, IsDead, IsLeastBelow, fault_at, shortest_behind, shortest_escaped}
+use Rattle.x86_decoder.specs.Reading.{Begins, Reads, ReadsOrDead, IsLeastBelow, fault_at, shortest_behind, shortest_escaped}
 use Rattle.x86_decoder.proofs.Readings.{reads_byte, reads_or_dead, needs_reads}
 use Rattle.x86_decoder.proofs.Shortest.{Shortest, shortest_needs, ending_shortest, ending_needs, ending_ends, address_needs, sib_shortest, reads_number}
 use Rattle.x86_decoder.proofs.Modrm.{modrm_shortest, modrm_begins}

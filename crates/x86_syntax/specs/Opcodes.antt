@@ -1,5 +1,5 @@
 -- Which row of the opcode table an opcode has.
-use Rattle.std.specs.Prelude.{ℕ, ◌+◌, ◌-◌, ◌*◌, ◌/◌, ◌%◌, ◌&&◌, ◌||◌, ◌==◌, not, Bool, true, false, if◌then◌else◌, nat_le, nat_lt, List, [], ◌∷◌, Option, Some, None, find}
+use Rattle.std.specs.Prelude.{ℕ, ◌-◌, ◌/◌, ◌%◌, ◌&&◌, ◌||◌, ◌==◌, not, Bool, true, false, nat_le, nat_lt, Option, find}
 use Rattle.x86_syntax.specs.declared.prefixes.Group.{Group}
 use Rattle.x86_syntax.specs.declared.prefixes.Group.TheVariants.{Empty, Lock, Repne, Rep}
 use Rattle.x86_syntax.specs.declared.prefixes.Prefixes.{Prefixes}
@@ -8,7 +8,7 @@ use Rattle.x86_syntax.specs.declared.table.Map.TheVariants.{One, Two, Three}
 use Rattle.x86_syntax.specs.declared.table.Repeats.{Repeats}
 use Rattle.x86_syntax.specs.declared.table.Repeats.TheVariants as repeats
 use Rattle.x86_syntax.specs.declared.table.Form.{Form}
-use Rattle.x86_syntax.specs.declared.table.Form.TheVariants.{Nothing, Eb, Ev, Ew, Gb, Gv, M, N}
+use Rattle.x86_syntax.specs.declared.table.Form.TheVariants.{Eb, Ev, Ew, Gb, Gv, M, N}
 use Rattle.x86_syntax.specs.declared.table.Row.{Row}
 use Rattle.x86_syntax.specs.declared.table.TheConstants.{ROWS}
 

@@ -1,6 +1,3 @@
-use Rattle.std.proofs.Common.{◌≡◌, take, subst}
-use Rattle.x86_decoder.specs.Reading.{Reads}
-use Rattle.x86_syntax.specs.Spelling.{spelled}
 use Rattle.x86_decoder.proofs.Readings.{reads_exact, reads_found, reads_spelling, reads_refused}
 use Rattle.x86_decoder.proofs.decoder.decode.Goals as goal
 

@@ -1,4 +1,4 @@
-use Rattle.std.proofs.Common.{◌≡◌, min, ◌∙◌, sym}
+use Rattle.std.proofs.Common.{◌∙◌, sym}
 use Rattle.x86_decoder.proofs.Modrm.{least_goes_on, least_skips}
 use Rattle.x86_decoder.proofs.decoder.lesser.Goals as goal
 

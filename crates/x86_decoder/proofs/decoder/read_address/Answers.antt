@@ -1,4 +1,4 @@
-use Rattle.std.proofs.Common.{◌≡◌, ◌+◌, ◌≤◌, length, take, drop, ap, sym, ◌∙◌, Err, arith}
+use Rattle.std.proofs.Common.{◌≡◌, ◌+◌, take, drop, ap, ◌∙◌, arith}
 use Rattle.x86_syntax.specs.Spelling.{displacement_size, mod_of, row_number_size, ending}
 use Rattle.x86_decoder.specs.Reading.{fault_at}
 use Rattle.x86_decoder.proofs.Steps.{address_end, address_step}

@@ -1,5 +1,4 @@
-use Rattle.std.proofs.Common.{◌≡◌, ◌+◌, ◌≤◌, length, take, ap, ◌∙◌, Err, arith}
-use Rattle.x86_syntax.specs.Formats.{number_of}
+use Rattle.std.proofs.Common.{◌≡◌, ◌+◌, take, ap, ◌∙◌, arith}
 use Rattle.x86_syntax.specs.Spelling.{instr_of, row_number_size}
 use Rattle.x86_decoder.specs.Reading.{fault_at}
 use Rattle.x86_decoder.proofs.Steps.{ending_end, ending_whole}

@@ -1,11 +1,9 @@
-use Rattle.std.proofs.Common.{◌≡◌, ◌+◌, ◌≤◌, length, take, drop, ap, sym, ◌∙◌, Err, Some, None, Option, arith}
-use Rattle.std.specs.Prelude.{◌==◌, ◌&&◌}
+use Rattle.std.proofs.Common.{ap, sym, ◌∙◌}
+use Rattle.std.specs.Prelude.{◌==◌}
 use Rattle.std.proofs.lemmas.Bool.{and_parts, eqb-true}
-use Rattle.x86_syntax.specs.declared.table.Row.{Row}
 use Rattle.x86_syntax.specs.Opcodes.{row_of}
-use Rattle.x86_syntax.specs.Spelling.{reg_of, mod_of, needs_memory}
+use Rattle.x86_syntax.specs.Spelling.{mod_of, needs_memory}
 use Rattle.x86_syntax.proofs.TableLemmas.{row_small}
-use Rattle.x86_decoder.specs.Reading.{fault_at}
 use Rattle.x86_decoder.proofs.Steps.{no_bytes, modrm_end, modrm_none, modrm_register, modrm_place}
 use Rattle.x86_decoder.proofs.decoder.read_modrm.Goals as goal
 

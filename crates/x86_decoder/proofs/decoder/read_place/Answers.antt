@@ -1,5 +1,5 @@
-use Rattle.std.proofs.Common.{◌≡◌, ◌+◌, ◌≤◌, length, take, drop, ap, sym, ◌∙◌, Err, arith}
-use Rattle.x86_syntax.specs.Spelling.{displacement_size, mod_of, rm_of, row_number_size, ending}
+use Rattle.std.proofs.Common.{◌≡◌, ◌+◌, ap, ◌∙◌}
+use Rattle.x86_syntax.specs.Spelling.{displacement_size, mod_of, row_number_size}
 use Rattle.x86_decoder.specs.Reading.{fault_at}
 use Rattle.x86_decoder.proofs.Shortest.{ending_shortest}
 use Rattle.x86_decoder.proofs.Steps.{no_bytes, place_register, place_address, place_sib_end, place_sib}

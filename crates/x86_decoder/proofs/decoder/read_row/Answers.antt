@@ -1,4 +1,4 @@
-use Rattle.std.proofs.Common.{◌≡◌, sym, ◌∙◌, arith}
+use Rattle.std.proofs.Common.{sym, ◌∙◌}
 use Rattle.x86_syntax.proofs.TableLemmas.{opcode_small}
 use Rattle.x86_decoder.proofs.Steps.{row_none, row_modrm, row_ending}
 use Rattle.x86_decoder.proofs.decoder.read_row.Goals as goal

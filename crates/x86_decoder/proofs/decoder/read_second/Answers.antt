@@ -1,5 +1,4 @@
 use Rattle.std.proofs.Common.{◌≡◌, ◌+◌, ap, sym, ◌∙◌}
-use Rattle.x86_syntax.specs.Opcodes.{may_escape}
 use Rattle.x86_decoder.specs.Reading.{fault_at, shortest_escaped}
 use Rattle.x86_decoder.proofs.Steps.{no_bytes, second_none, second_end, second_third, second_row}
 use Rattle.x86_decoder.proofs.decoder.read_second.Goals as goal

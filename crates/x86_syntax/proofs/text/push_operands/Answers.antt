@@ -1,7 +1,6 @@
-use Rattle.std.proofs.Common.{◌≡◌, ◌+◌, ◌≤◌, ◌++◌, length, drop, arith}
+use Rattle.std.proofs.Common.{arith}
 use Rattle.bit_words.specs.declared.width.Width.TheVariants.{B8}
 use Rattle.x86_syntax.specs.declared.instr.Operand.TheVariants.{Register}
-use Rattle.x86_syntax.specs.Text.{operands_text}
 use Rattle.x86_syntax.proofs.TextLemmas.{text_step, room_step, text_end}
 use Rattle.x86_syntax.proofs.text.push_operands.Goals as goal
 

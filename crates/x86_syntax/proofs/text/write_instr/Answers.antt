@@ -1,4 +1,4 @@
-use Rattle.std.proofs.Common.{◌≡◌, ap, length, arith}
+use Rattle.std.proofs.Common.{ap, length, arith}
 use Rattle.std.specs.Prelude.{sum_by}
 use Rattle.x86_syntax.specs.Text.{operand_room}
 use Rattle.x86_syntax.proofs.Rows.{operands_room}
