@@ -116,6 +116,11 @@ pub enum Place {
 }
 
 impl Default for Operand {
+    ghost use Rattle.std.specs.Prelude.{◌≡◌, pos};
+    ghost use Rattle.x86_syntax.specs.declared.instr.Operand.TheVariants.{Offset};
+
+    ghost is_default = { λ op. op ≡ Offset (pos 0) };
+
     fn default() -> Operand {
         Operand::Offset(0)
     }
