@@ -219,9 +219,48 @@ macro_rules! forms {
     };
 }
 
+macro_rules! name {
+    ($all:ident) => {
+        Name::All(Mnemonic::$all)
+    };
+    ($long:ident / $word:ident) => {
+        Name::BySize(Mnemonic::$long, Mnemonic::$word)
+    };
+    (= $family:ident) => {
+        Name::$family
+    };
+}
+
+macro_rules! listed {
+    (yes) => {
+        true
+    };
+    (no) => {
+        false
+    };
+}
+
 macro_rules! row {
-    ($map:ident, $first:literal + $step:literal * $count:literal, [$low:literal $high:literal],
-     $name:expr, [$($form:ident)*], $size:literal, $lock:literal, $repeats:ident) => {
+    ($map:ident $first:literal, $($rest:tt)*) => {
+        row!(@reg [$map $first 1 1] $($rest)*)
+    };
+    ($map:ident $first:literal x $count:literal, $($rest:tt)*) => {
+        row!(@reg [$map $first 1 $count] $($rest)*)
+    };
+    ($map:ident $first:literal x $count:literal by $step:literal, $($rest:tt)*) => {
+        row!(@reg [$map $first $step $count] $($rest)*)
+    };
+    (@reg [$($codes:tt)*] / $reg:literal, $($rest:tt)*) => {
+        row!(@row [$($codes)* $reg $reg] $($rest)*)
+    };
+    (@reg [$($codes:tt)*] / $low:literal - $high:literal, $($rest:tt)*) => {
+        row!(@row [$($codes)* $low $high] $($rest)*)
+    };
+    (@reg [$($codes:tt)*] $($rest:tt)*) => {
+        row!(@row [$($codes)* 0 7] $($rest)*)
+    };
+    (@row [$map:ident $first:literal $step:literal $count:literal $low:literal $high:literal]
+     ($($name:tt)*), [$($form:ident)*], $size:ident, $lock:ident, $repeats:ident) => {
         Row {
             map: Map::$map,
             first: $first,
@@ -229,154 +268,154 @@ macro_rules! row {
             count: $count,
             low: $low,
             high: $high,
-            name: $name,
+            name: name!($($name)*),
             forms: forms!($($form)*),
-            size: $size,
-            lock: $lock,
+            size: listed!($size),
+            lock: listed!($lock),
             repeats: Repeats::$repeats,
         }
     };
 }
 
-/// The opcode table. A line has the map, the opcodes, the reg fields, the name, the forms of the operands, the
-/// columns of the prefixes 66 and F0, and what F3 and F2 mean.
+/// The opcode table. A line has the map, the opcodes, the reg fields where not all are listed, the name, the forms of
+/// the operands, whether the prefixes 66 and F0 are listed, and what F3 and F2 mean.
 /// Source: Intel manual, volume 2, the opcode maps of appendix A and the pages of the instructions.
 pub static ROWS: [Row; 127] = [
     // ADD OR ADC SBB AND SUB XOR CMP, eight opcodes apart; CMP is listed without LOCK
-    row!(One, 0x00 + 8 * 7, [0 7], Name::Arithmetic, [Eb Gb], false, true, Never),
-    row!(One, 0x01 + 8 * 7, [0 7], Name::Arithmetic, [Ev Gv], true, true, Never),
-    row!(One, 0x38 + 1 * 1, [0 7], Name::All(Mnemonic::Cmp), [Eb Gb], false, false, Never),
-    row!(One, 0x39 + 1 * 1, [0 7], Name::All(Mnemonic::Cmp), [Ev Gv], true, false, Never),
-    row!(One, 0x02 + 8 * 8, [0 7], Name::Arithmetic, [Gb Eb], false, false, Never),
-    row!(One, 0x03 + 8 * 8, [0 7], Name::Arithmetic, [Gv Ev], true, false, Never),
-    row!(One, 0x04 + 8 * 8, [0 7], Name::Arithmetic, [Ab Ib], false, false, Never),
-    row!(One, 0x05 + 8 * 8, [0 7], Name::Arithmetic, [Av Iv], true, false, Never),
-    row!(One, 0x80 + 1 * 1, [0 6], Name::ArithmeticByReg, [Eb Ib], false, true, Never),
-    row!(One, 0x80 + 1 * 1, [7 7], Name::All(Mnemonic::Cmp), [Eb Ib], false, false, Never),
-    row!(One, 0x81 + 1 * 1, [0 6], Name::ArithmeticByReg, [Ev Iv], true, true, Never),
-    row!(One, 0x81 + 1 * 1, [7 7], Name::All(Mnemonic::Cmp), [Ev Iv], true, false, Never),
-    row!(One, 0x83 + 1 * 1, [0 6], Name::ArithmeticByReg, [Ev Is], true, true, Never),
-    row!(One, 0x83 + 1 * 1, [7 7], Name::All(Mnemonic::Cmp), [Ev Is], true, false, Never),
+    row!(One 0x00 x 7 by 8, (= Arithmetic), [Eb Gb], no, yes, Never),
+    row!(One 0x01 x 7 by 8, (= Arithmetic), [Ev Gv], yes, yes, Never),
+    row!(One 0x38, (Cmp), [Eb Gb], no, no, Never),
+    row!(One 0x39, (Cmp), [Ev Gv], yes, no, Never),
+    row!(One 0x02 x 8 by 8, (= Arithmetic), [Gb Eb], no, no, Never),
+    row!(One 0x03 x 8 by 8, (= Arithmetic), [Gv Ev], yes, no, Never),
+    row!(One 0x04 x 8 by 8, (= Arithmetic), [Ab Ib], no, no, Never),
+    row!(One 0x05 x 8 by 8, (= Arithmetic), [Av Iv], yes, no, Never),
+    row!(One 0x80, /0-6, (= ArithmeticByReg), [Eb Ib], no, yes, Never),
+    row!(One 0x80, /7, (Cmp), [Eb Ib], no, no, Never),
+    row!(One 0x81, /0-6, (= ArithmeticByReg), [Ev Iv], yes, yes, Never),
+    row!(One 0x81, /7, (Cmp), [Ev Iv], yes, no, Never),
+    row!(One 0x83, /0-6, (= ArithmeticByReg), [Ev Is], yes, yes, Never),
+    row!(One 0x83, /7, (Cmp), [Ev Is], yes, no, Never),
     // TEST, XCHG, NOP
-    row!(One, 0x84 + 1 * 1, [0 7], Name::All(Mnemonic::Test), [Eb Gb], false, false, Never),
-    row!(One, 0x85 + 1 * 1, [0 7], Name::All(Mnemonic::Test), [Ev Gv], true, false, Never),
-    row!(One, 0xA8 + 1 * 1, [0 7], Name::All(Mnemonic::Test), [Ab Ib], false, false, Never),
-    row!(One, 0xA9 + 1 * 1, [0 7], Name::All(Mnemonic::Test), [Av Iv], true, false, Never),
-    row!(One, 0x86 + 1 * 1, [0 7], Name::All(Mnemonic::Xchg), [Eb Gb], false, true, Never),
-    row!(One, 0x87 + 1 * 1, [0 7], Name::All(Mnemonic::Xchg), [Ev Gv], true, true, Never),
-    row!(One, 0x90 + 1 * 1, [0 7], Name::All(Mnemonic::Nop), [V], true, false, Ignored),
-    row!(One, 0x91 + 1 * 7, [0 7], Name::All(Mnemonic::Xchg), [Av Rv], true, false, Never),
+    row!(One 0x84, (Test), [Eb Gb], no, no, Never),
+    row!(One 0x85, (Test), [Ev Gv], yes, no, Never),
+    row!(One 0xA8, (Test), [Ab Ib], no, no, Never),
+    row!(One 0xA9, (Test), [Av Iv], yes, no, Never),
+    row!(One 0x86, (Xchg), [Eb Gb], no, yes, Never),
+    row!(One 0x87, (Xchg), [Ev Gv], yes, yes, Never),
+    row!(One 0x90, (Nop), [V], yes, no, Ignored),
+    row!(One 0x91 x 7, (Xchg), [Av Rv], yes, no, Never),
     // MOV, LEA
-    row!(One, 0x88 + 1 * 1, [0 7], Name::All(Mnemonic::Mov), [Eb Gb], false, false, Never),
-    row!(One, 0x89 + 1 * 1, [0 7], Name::All(Mnemonic::Mov), [Ev Gv], true, false, Never),
-    row!(One, 0x8A + 1 * 1, [0 7], Name::All(Mnemonic::Mov), [Gb Eb], false, false, Never),
-    row!(One, 0x8B + 1 * 1, [0 7], Name::All(Mnemonic::Mov), [Gv Ev], true, false, Never),
-    row!(One, 0xA0 + 1 * 1, [0 7], Name::All(Mnemonic::Mov), [Ab Ob], false, false, Never),
-    row!(One, 0xA1 + 1 * 1, [0 7], Name::All(Mnemonic::Mov), [Av Ov], true, false, Never),
-    row!(One, 0xA2 + 1 * 1, [0 7], Name::All(Mnemonic::Mov), [Ob Ab], false, false, Never),
-    row!(One, 0xA3 + 1 * 1, [0 7], Name::All(Mnemonic::Mov), [Ov Av], true, false, Never),
-    row!(One, 0xB0 + 1 * 8, [0 7], Name::All(Mnemonic::Mov), [Rb Ib], false, false, Never),
-    row!(One, 0xB8 + 1 * 8, [0 7], Name::All(Mnemonic::Mov), [Rv Iv], true, false, Never),
-    row!(One, 0xC6 + 1 * 1, [0 0], Name::All(Mnemonic::Mov), [Eb Ib], false, false, Never),
-    row!(One, 0xC7 + 1 * 1, [0 0], Name::All(Mnemonic::Mov), [Ev Iv], true, false, Never),
-    row!(One, 0x8D + 1 * 1, [0 7], Name::All(Mnemonic::Lea), [Gv M], true, false, Never),
+    row!(One 0x88, (Mov), [Eb Gb], no, no, Never),
+    row!(One 0x89, (Mov), [Ev Gv], yes, no, Never),
+    row!(One 0x8A, (Mov), [Gb Eb], no, no, Never),
+    row!(One 0x8B, (Mov), [Gv Ev], yes, no, Never),
+    row!(One 0xA0, (Mov), [Ab Ob], no, no, Never),
+    row!(One 0xA1, (Mov), [Av Ov], yes, no, Never),
+    row!(One 0xA2, (Mov), [Ob Ab], no, no, Never),
+    row!(One 0xA3, (Mov), [Ov Av], yes, no, Never),
+    row!(One 0xB0 x 8, (Mov), [Rb Ib], no, no, Never),
+    row!(One 0xB8 x 8, (Mov), [Rv Iv], yes, no, Never),
+    row!(One 0xC6, /0, (Mov), [Eb Ib], no, no, Never),
+    row!(One 0xC7, /0, (Mov), [Ev Iv], yes, no, Never),
+    row!(One 0x8D, (Lea), [Gv M], yes, no, Never),
     // INC, DEC, PUSH, POP, CALL and JMP through an operand
-    row!(One, 0x40 + 1 * 8, [0 7], Name::All(Mnemonic::Inc), [Rv], true, false, Never),
-    row!(One, 0x48 + 1 * 8, [0 7], Name::All(Mnemonic::Dec), [Rv], true, false, Never),
-    row!(One, 0x50 + 1 * 8, [0 7], Name::All(Mnemonic::Push), [Rv], false, false, Never),
-    row!(One, 0x58 + 1 * 8, [0 7], Name::All(Mnemonic::Pop), [Rv], false, false, Never),
-    row!(One, 0x68 + 1 * 1, [0 7], Name::All(Mnemonic::Push), [Iv], false, false, Never),
-    row!(One, 0x6A + 1 * 1, [0 7], Name::All(Mnemonic::Push), [Is], false, false, Never),
-    row!(One, 0xFF + 1 * 1, [6 6], Name::All(Mnemonic::Push), [Ev], false, false, Never),
-    row!(One, 0x8F + 1 * 1, [0 0], Name::All(Mnemonic::Pop), [Ev], false, false, Never),
-    row!(One, 0xFE + 1 * 1, [0 0], Name::All(Mnemonic::Inc), [Eb], false, true, Never),
-    row!(One, 0xFE + 1 * 1, [1 1], Name::All(Mnemonic::Dec), [Eb], false, true, Never),
-    row!(One, 0xFF + 1 * 1, [0 0], Name::All(Mnemonic::Inc), [Ev], true, true, Never),
-    row!(One, 0xFF + 1 * 1, [1 1], Name::All(Mnemonic::Dec), [Ev], true, true, Never),
-    row!(One, 0xFF + 1 * 1, [2 2], Name::All(Mnemonic::Call), [Ev], false, false, Never),
-    row!(One, 0xFF + 1 * 1, [4 4], Name::All(Mnemonic::Jmp), [Ev], false, false, Never),
+    row!(One 0x40 x 8, (Inc), [Rv], yes, no, Never),
+    row!(One 0x48 x 8, (Dec), [Rv], yes, no, Never),
+    row!(One 0x50 x 8, (Push), [Rv], no, no, Never),
+    row!(One 0x58 x 8, (Pop), [Rv], no, no, Never),
+    row!(One 0x68, (Push), [Iv], no, no, Never),
+    row!(One 0x6A, (Push), [Is], no, no, Never),
+    row!(One 0xFF, /6, (Push), [Ev], no, no, Never),
+    row!(One 0x8F, /0, (Pop), [Ev], no, no, Never),
+    row!(One 0xFE, /0, (Inc), [Eb], no, yes, Never),
+    row!(One 0xFE, /1, (Dec), [Eb], no, yes, Never),
+    row!(One 0xFF, /0, (Inc), [Ev], yes, yes, Never),
+    row!(One 0xFF, /1, (Dec), [Ev], yes, yes, Never),
+    row!(One 0xFF, /2, (Call), [Ev], no, no, Never),
+    row!(One 0xFF, /4, (Jmp), [Ev], no, no, Never),
     // TEST, NOT, NEG, MUL, IMUL, DIV, IDIV
-    row!(One, 0xF6 + 1 * 1, [0 0], Name::All(Mnemonic::Test), [Eb Ib], false, false, Never),
-    row!(One, 0xF6 + 1 * 1, [2 2], Name::All(Mnemonic::Not), [Eb], false, true, Never),
-    row!(One, 0xF6 + 1 * 1, [3 3], Name::All(Mnemonic::Neg), [Eb], false, true, Never),
-    row!(One, 0xF6 + 1 * 1, [4 4], Name::All(Mnemonic::Mul), [Eb], false, false, Never),
-    row!(One, 0xF6 + 1 * 1, [5 5], Name::All(Mnemonic::Imul), [Eb], false, false, Never),
-    row!(One, 0xF6 + 1 * 1, [6 6], Name::All(Mnemonic::Div), [Eb], false, false, Never),
-    row!(One, 0xF6 + 1 * 1, [7 7], Name::All(Mnemonic::Idiv), [Eb], false, false, Never),
-    row!(One, 0xF7 + 1 * 1, [0 0], Name::All(Mnemonic::Test), [Ev Iv], true, false, Never),
-    row!(One, 0xF7 + 1 * 1, [2 2], Name::All(Mnemonic::Not), [Ev], true, true, Never),
-    row!(One, 0xF7 + 1 * 1, [3 3], Name::All(Mnemonic::Neg), [Ev], true, true, Never),
-    row!(One, 0xF7 + 1 * 1, [4 4], Name::All(Mnemonic::Mul), [Ev], true, false, Never),
-    row!(One, 0xF7 + 1 * 1, [5 5], Name::All(Mnemonic::Imul), [Ev], true, false, Never),
-    row!(One, 0xF7 + 1 * 1, [6 6], Name::All(Mnemonic::Div), [Ev], true, false, Never),
-    row!(One, 0xF7 + 1 * 1, [7 7], Name::All(Mnemonic::Idiv), [Ev], true, false, Never),
-    row!(One, 0x69 + 1 * 1, [0 7], Name::All(Mnemonic::Imul), [Gv Ev Iv], true, false, Never),
-    row!(One, 0x6B + 1 * 1, [0 7], Name::All(Mnemonic::Imul), [Gv Ev Is], true, false, Never),
-    row!(Two, 0xAF + 1 * 1, [0 7], Name::All(Mnemonic::Imul), [Gv Ev], true, false, Never),
+    row!(One 0xF6, /0, (Test), [Eb Ib], no, no, Never),
+    row!(One 0xF6, /2, (Not), [Eb], no, yes, Never),
+    row!(One 0xF6, /3, (Neg), [Eb], no, yes, Never),
+    row!(One 0xF6, /4, (Mul), [Eb], no, no, Never),
+    row!(One 0xF6, /5, (Imul), [Eb], no, no, Never),
+    row!(One 0xF6, /6, (Div), [Eb], no, no, Never),
+    row!(One 0xF6, /7, (Idiv), [Eb], no, no, Never),
+    row!(One 0xF7, /0, (Test), [Ev Iv], yes, no, Never),
+    row!(One 0xF7, /2, (Not), [Ev], yes, yes, Never),
+    row!(One 0xF7, /3, (Neg), [Ev], yes, yes, Never),
+    row!(One 0xF7, /4, (Mul), [Ev], yes, no, Never),
+    row!(One 0xF7, /5, (Imul), [Ev], yes, no, Never),
+    row!(One 0xF7, /6, (Div), [Ev], yes, no, Never),
+    row!(One 0xF7, /7, (Idiv), [Ev], yes, no, Never),
+    row!(One 0x69, (Imul), [Gv Ev Iv], yes, no, Never),
+    row!(One 0x6B, (Imul), [Gv Ev Is], yes, no, Never),
+    row!(Two 0xAF, (Imul), [Gv Ev], yes, no, Never),
     // ROL, ROR, SHL, SHR, SAR: /0 /1, /4 /5, /7
-    row!(One, 0xC0 + 1 * 1, [0 1], Name::ShiftByReg, [Eb Ib], false, false, Never),
-    row!(One, 0xC0 + 1 * 1, [4 5], Name::ShiftByReg, [Eb Ib], false, false, Never),
-    row!(One, 0xC0 + 1 * 1, [7 7], Name::ShiftByReg, [Eb Ib], false, false, Never),
-    row!(One, 0xC1 + 1 * 1, [0 1], Name::ShiftByReg, [Ev Ib], true, false, Never),
-    row!(One, 0xC1 + 1 * 1, [4 5], Name::ShiftByReg, [Ev Ib], true, false, Never),
-    row!(One, 0xC1 + 1 * 1, [7 7], Name::ShiftByReg, [Ev Ib], true, false, Never),
-    row!(One, 0xD0 + 1 * 1, [0 1], Name::ShiftByReg, [Eb One], false, false, Never),
-    row!(One, 0xD0 + 1 * 1, [4 5], Name::ShiftByReg, [Eb One], false, false, Never),
-    row!(One, 0xD0 + 1 * 1, [7 7], Name::ShiftByReg, [Eb One], false, false, Never),
-    row!(One, 0xD1 + 1 * 1, [0 1], Name::ShiftByReg, [Ev One], true, false, Never),
-    row!(One, 0xD1 + 1 * 1, [4 5], Name::ShiftByReg, [Ev One], true, false, Never),
-    row!(One, 0xD1 + 1 * 1, [7 7], Name::ShiftByReg, [Ev One], true, false, Never),
-    row!(One, 0xD2 + 1 * 1, [0 1], Name::ShiftByReg, [Eb Cl], false, false, Never),
-    row!(One, 0xD2 + 1 * 1, [4 5], Name::ShiftByReg, [Eb Cl], false, false, Never),
-    row!(One, 0xD2 + 1 * 1, [7 7], Name::ShiftByReg, [Eb Cl], false, false, Never),
-    row!(One, 0xD3 + 1 * 1, [0 1], Name::ShiftByReg, [Ev Cl], true, false, Never),
-    row!(One, 0xD3 + 1 * 1, [4 5], Name::ShiftByReg, [Ev Cl], true, false, Never),
-    row!(One, 0xD3 + 1 * 1, [7 7], Name::ShiftByReg, [Ev Cl], true, false, Never),
+    row!(One 0xC0, /0-1, (= ShiftByReg), [Eb Ib], no, no, Never),
+    row!(One 0xC0, /4-5, (= ShiftByReg), [Eb Ib], no, no, Never),
+    row!(One 0xC0, /7, (= ShiftByReg), [Eb Ib], no, no, Never),
+    row!(One 0xC1, /0-1, (= ShiftByReg), [Ev Ib], yes, no, Never),
+    row!(One 0xC1, /4-5, (= ShiftByReg), [Ev Ib], yes, no, Never),
+    row!(One 0xC1, /7, (= ShiftByReg), [Ev Ib], yes, no, Never),
+    row!(One 0xD0, /0-1, (= ShiftByReg), [Eb One], no, no, Never),
+    row!(One 0xD0, /4-5, (= ShiftByReg), [Eb One], no, no, Never),
+    row!(One 0xD0, /7, (= ShiftByReg), [Eb One], no, no, Never),
+    row!(One 0xD1, /0-1, (= ShiftByReg), [Ev One], yes, no, Never),
+    row!(One 0xD1, /4-5, (= ShiftByReg), [Ev One], yes, no, Never),
+    row!(One 0xD1, /7, (= ShiftByReg), [Ev One], yes, no, Never),
+    row!(One 0xD2, /0-1, (= ShiftByReg), [Eb Cl], no, no, Never),
+    row!(One 0xD2, /4-5, (= ShiftByReg), [Eb Cl], no, no, Never),
+    row!(One 0xD2, /7, (= ShiftByReg), [Eb Cl], no, no, Never),
+    row!(One 0xD3, /0-1, (= ShiftByReg), [Ev Cl], yes, no, Never),
+    row!(One 0xD3, /4-5, (= ShiftByReg), [Ev Cl], yes, no, Never),
+    row!(One 0xD3, /7, (= ShiftByReg), [Ev Cl], yes, no, Never),
     // Jcc, SETcc, CMOVcc, MOVZX, MOVSX
-    row!(One, 0x70 + 1 * 16, [0 7], Name::J, [J8], false, false, Never),
-    row!(Two, 0x80 + 1 * 16, [0 7], Name::J, [J32], false, false, Never),
-    row!(Two, 0x90 + 1 * 16, [0 7], Name::Set, [Eb], false, false, Never),
-    row!(Two, 0x40 + 1 * 16, [0 7], Name::Cmov, [Gv Ev], true, false, Never),
-    row!(Two, 0xB6 + 1 * 1, [0 7], Name::All(Mnemonic::Movzx), [Gv Eb], true, false, Never),
-    row!(Two, 0xBE + 1 * 1, [0 7], Name::All(Mnemonic::Movsx), [Gv Eb], true, false, Never),
-    row!(Two, 0xB7 + 1 * 1, [0 7], Name::All(Mnemonic::Movzx), [Gv Ew], false, false, Never),
-    row!(Two, 0xBF + 1 * 1, [0 7], Name::All(Mnemonic::Movsx), [Gv Ew], false, false, Never),
+    row!(One 0x70 x 16, (= J), [J8], no, no, Never),
+    row!(Two 0x80 x 16, (= J), [J32], no, no, Never),
+    row!(Two 0x90 x 16, (= Set), [Eb], no, no, Never),
+    row!(Two 0x40 x 16, (= Cmov), [Gv Ev], yes, no, Never),
+    row!(Two 0xB6, (Movzx), [Gv Eb], yes, no, Never),
+    row!(Two 0xBE, (Movsx), [Gv Eb], yes, no, Never),
+    row!(Two 0xB7, (Movzx), [Gv Ew], no, no, Never),
+    row!(Two 0xBF, (Movsx), [Gv Ew], no, no, Never),
     // JMP, CALL, RET, LEAVE, CWDE or CBW, CDQ or CWD, the loops
-    row!(One, 0xEB + 1 * 1, [0 7], Name::All(Mnemonic::Jmp), [J8], false, false, Never),
-    row!(One, 0xE9 + 1 * 1, [0 7], Name::All(Mnemonic::Jmp), [J32], false, false, Never),
-    row!(One, 0xE8 + 1 * 1, [0 7], Name::All(Mnemonic::Call), [J32], false, false, Never),
-    row!(One, 0xC3 + 1 * 1, [0 7], Name::All(Mnemonic::Ret), [], false, false, Ignored),
-    row!(One, 0xC2 + 1 * 1, [0 7], Name::All(Mnemonic::Ret), [Iw], false, false, Never),
-    row!(One, 0xC9 + 1 * 1, [0 7], Name::All(Mnemonic::Leave), [], false, false, Never),
-    row!(One, 0x98 + 1 * 1, [0 7], Name::BySize(Mnemonic::Cwde, Mnemonic::Cbw), [V], true, false, Never),
-    row!(One, 0x99 + 1 * 1, [0 7], Name::BySize(Mnemonic::Cdq, Mnemonic::Cwd), [V], true, false, Never),
-    row!(One, 0xE0 + 1 * 1, [0 7], Name::All(Mnemonic::Loopne), [J8], false, false, Never),
-    row!(One, 0xE1 + 1 * 1, [0 7], Name::All(Mnemonic::Loope), [J8], false, false, Never),
-    row!(One, 0xE2 + 1 * 1, [0 7], Name::All(Mnemonic::Loop), [J8], false, false, Never),
-    row!(One, 0xE3 + 1 * 1, [0 7], Name::All(Mnemonic::Jecxz), [J8], false, false, Never),
+    row!(One 0xEB, (Jmp), [J8], no, no, Never),
+    row!(One 0xE9, (Jmp), [J32], no, no, Never),
+    row!(One 0xE8, (Call), [J32], no, no, Never),
+    row!(One 0xC3, (Ret), [], no, no, Ignored),
+    row!(One 0xC2, (Ret), [Iw], no, no, Never),
+    row!(One 0xC9, (Leave), [], no, no, Never),
+    row!(One 0x98, (Cwde / Cbw), [V], yes, no, Never),
+    row!(One 0x99, (Cdq / Cwd), [V], yes, no, Never),
+    row!(One 0xE0, (Loopne), [J8], no, no, Never),
+    row!(One 0xE1, (Loope), [J8], no, no, Never),
+    row!(One 0xE2, (Loop), [J8], no, no, Never),
+    row!(One 0xE3, (Jecxz), [J8], no, no, Never),
     // the string operations
-    row!(One, 0xA4 + 1 * 1, [0 7], Name::All(Mnemonic::Movs), [Xb], false, false, Rep),
-    row!(One, 0xA5 + 1 * 1, [0 7], Name::All(Mnemonic::Movs), [Xv], true, false, Rep),
-    row!(One, 0xA6 + 1 * 1, [0 7], Name::All(Mnemonic::Cmps), [Xb], false, false, RepeRepne),
-    row!(One, 0xA7 + 1 * 1, [0 7], Name::All(Mnemonic::Cmps), [Xv], true, false, RepeRepne),
-    row!(One, 0xAA + 1 * 1, [0 7], Name::All(Mnemonic::Stos), [Yb], false, false, Rep),
-    row!(One, 0xAB + 1 * 1, [0 7], Name::All(Mnemonic::Stos), [Yv], true, false, Rep),
-    row!(One, 0xAC + 1 * 1, [0 7], Name::All(Mnemonic::Lods), [Xb], false, false, Rep),
-    row!(One, 0xAD + 1 * 1, [0 7], Name::All(Mnemonic::Lods), [Xv], true, false, Rep),
-    row!(One, 0xAE + 1 * 1, [0 7], Name::All(Mnemonic::Scas), [Yb], false, false, RepeRepne),
-    row!(One, 0xAF + 1 * 1, [0 7], Name::All(Mnemonic::Scas), [Yv], true, false, RepeRepne),
+    row!(One 0xA4, (Movs), [Xb], no, no, Rep),
+    row!(One 0xA5, (Movs), [Xv], yes, no, Rep),
+    row!(One 0xA6, (Cmps), [Xb], no, no, RepeRepne),
+    row!(One 0xA7, (Cmps), [Xv], yes, no, RepeRepne),
+    row!(One 0xAA, (Stos), [Yb], no, no, Rep),
+    row!(One 0xAB, (Stos), [Yv], yes, no, Rep),
+    row!(One 0xAC, (Lods), [Xb], no, no, Rep),
+    row!(One 0xAD, (Lods), [Xv], yes, no, Rep),
+    row!(One 0xAE, (Scas), [Yb], no, no, RepeRepne),
+    row!(One 0xAF, (Scas), [Yv], yes, no, RepeRepne),
     // flags, and what is left
-    row!(One, 0xF5 + 1 * 1, [0 7], Name::All(Mnemonic::Cmc), [], false, false, Never),
-    row!(One, 0xF8 + 1 * 1, [0 7], Name::All(Mnemonic::Clc), [], false, false, Never),
-    row!(One, 0xF9 + 1 * 1, [0 7], Name::All(Mnemonic::Stc), [], false, false, Never),
-    row!(One, 0xFC + 1 * 1, [0 7], Name::All(Mnemonic::Cld), [], false, false, Never),
-    row!(One, 0xFD + 1 * 1, [0 7], Name::All(Mnemonic::Std), [], false, false, Never),
-    row!(One, 0x9E + 1 * 1, [0 7], Name::All(Mnemonic::Sahf), [], false, false, Never),
-    row!(One, 0x9F + 1 * 1, [0 7], Name::All(Mnemonic::Lahf), [], false, false, Never),
-    row!(Two, 0xC8 + 1 * 8, [0 7], Name::All(Mnemonic::Bswap), [Rv], false, false, Never),
-    row!(Two, 0x1F + 1 * 1, [0 0], Name::All(Mnemonic::Nop), [N], true, false, Never),
-    row!(Three, 0xFB + 1 * 1, [0 7], Name::All(Mnemonic::Endbr32), [], false, false, Needed),
-    row!(Two, 0x0B + 1 * 1, [0 7], Name::All(Mnemonic::Ud2), [], false, false, Never),
-    row!(One, 0xCC + 1 * 1, [0 7], Name::All(Mnemonic::Int3), [], false, false, Never),
-    row!(One, 0xF4 + 1 * 1, [0 7], Name::All(Mnemonic::Hlt), [], false, false, Never),
+    row!(One 0xF5, (Cmc), [], no, no, Never),
+    row!(One 0xF8, (Clc), [], no, no, Never),
+    row!(One 0xF9, (Stc), [], no, no, Never),
+    row!(One 0xFC, (Cld), [], no, no, Never),
+    row!(One 0xFD, (Std), [], no, no, Never),
+    row!(One 0x9E, (Sahf), [], no, no, Never),
+    row!(One 0x9F, (Lahf), [], no, no, Never),
+    row!(Two 0xC8 x 8, (Bswap), [Rv], no, no, Never),
+    row!(Two 0x1F, /0, (Nop), [N], yes, no, Never),
+    row!(Three 0xFB, (Endbr32), [], no, no, Needed),
+    row!(Two 0x0B, (Ud2), [], no, no, Never),
+    row!(One 0xCC, (Int3), [], no, no, Never),
+    row!(One 0xF4, (Hlt), [], no, no, Never),
 ];
