@@ -1,2 +1,5 @@
 pub mod Readings
-pub mod Opcodes
+pub mod Shortest
+pub mod Modrm
+pub mod Escapes
+pub mod Steps

@@ -5,6 +5,8 @@
 
 mod decoder;
 mod fault;
+mod operands;
+mod prefix_bytes;
 #[cfg(test)]
 mod tests;
 

@@ -1,110 +1,297 @@
 use crate::{DecodeFault, decode};
+use std::alloc::Global;
 use std::process::Abort;
+use std::test::Fail;
 use x86_syntax::write_instr;
 
-/// Decodes `bytes` at the address 08048000, and compares length and text.
-fn expect_text(rt: &impl Abort, bytes: &[u8], len: u8, text: &str) {
+/// Bytes in hexadecimal, and the text of the instruction that they are, at the address 08048000.
+const TEXTS: &str = "\
+00 08|add byte [eax], cl
+01 D8|add eax, ebx
+66 01 D8|add ax, bx
+02 0D 10 20 30 40|add cl, byte [40302010]
+03 45 F8|add eax, dword [ebp+FFFFFFF8]
+04 7F|add al, 7F
+05 78 56 34 12|add eax, 12345678
+66 05 34 12|add ax, 1234
+09 C8|or eax, ecx
+11 14 24|adc dword [esp], edx
+19 C0|sbb eax, eax
+20 E1|and cl, ah
+29 F1|sub ecx, esi
+30 C9|xor cl, cl
+31 ED|xor ebp, ebp
+38 D0|cmp al, dl
+39 18|cmp dword [eax], ebx
+3B 04 85 10 80 04 08|cmp eax, dword [eax*4+08048010]
+3D 00 00 00 80|cmp eax, 80000000
+80 0B 01|or byte [ebx], 01
+81 E1 F0 FF FF FF|and ecx, FFFFFFF0
+66 81 C1 34 12|add cx, 1234
+83 E4 F0|and esp, FFFFFFF0
+66 83 C0 FF|add ax, FFFF
+83 7D 08 02|cmp dword [ebp+00000008], 00000002
+F0 66 01 00|lock add word [eax], ax
+84 C0|test al, al
+85 C0|test eax, eax
+A8 01|test al, 01
+A9 01 00 00 00|test eax, 00000001
+86 C4|xchg ah, al
+F0 86 00|lock xchg byte [eax], al
+87 1C 08|xchg dword [eax+ecx*1], ebx
+90|nop
+66 90|nop
+F3 90|nop
+91|xchg eax, ecx
+66 97|xchg ax, di
+88 0A|mov byte [edx], cl
+89 E5|mov ebp, esp
+8A 65 00|mov ah, byte [ebp]
+8B 45 F8|mov eax, dword [ebp+FFFFFFF8]
+8B 44 24 04|mov eax, dword [esp+00000004]
+8B 84 B7 00 01 00 00|mov eax, dword [edi+esi*4+00000100]
+66 8B 0D 00 00 00 00|mov cx, word [00000000]
+36 8B 00|mov eax, dword [eax]
+64 64 8B 00|mov eax, dword fs:[eax]
+64 8A 04 48|mov al, byte fs:[eax+ecx*2]
+A0 04 03 02 01|mov al, byte [01020304]
+65 A1 14 00 00 00|mov eax, dword gs:[00000014]
+A2 00 00 00 09|mov byte [09000000], al
+66 A3 00 00 00 09|mov word [09000000], ax
+B1 FF|mov cl, FF
+B7 80|mov bh, 80
+BC 00 00 FF BF|mov esp, BFFF0000
+66 B8 01 02|mov ax, 0201
+C6 05 07 80 04 08 90|mov byte [08048007], 90
+C7 44 24 08 01 00 00 00|mov dword [esp+00000008], 00000001
+66 C7 00 01 02|mov word [eax], 0201
+8D 64 24 FC|lea esp, [esp+FFFFFFFC]
+64 8D 00|lea eax, [eax]
+66 8D 00|lea ax, [eax]
+8D 04 CD 00 00 00 00|lea eax, [ecx*8]
+8D 05 00 00 00 00|lea eax, [00000000]
+40|inc eax
+66 4F|dec di
+50|push eax
+5D|pop ebp
+68 20 80 04 08|push 08048020
+6A FF|push FFFFFFFF
+FF 35 00 00 00 09|push dword [09000000]
+64 FF 35 00 00 00 00|push dword fs:[00000000]
+8F 04 24|pop dword [esp]
+FE C0|inc al
+FE 08|dec byte [eax]
+FF C0|inc eax
+FF 4D FC|dec dword [ebp+FFFFFFFC]
+F0 FF 00|lock inc dword [eax]
+FF 15 00 00 00 09|call dword [09000000]
+FF E0|jmp eax
+FF 24 85 10 80 04 08|jmp dword [eax*4+08048010]
+F6 C1 01|test cl, 01
+F7 00 01 00 00 00|test dword [eax], 00000001
+F7 D0|not eax
+F0 F6 18|lock neg byte [eax]
+F7 E1|mul ecx
+F6 E9|imul cl
+F7 F3|div ebx
+66 F7 FB|idiv bx
+69 C0 10 00 00 00|imul eax, eax, 00000010
+6B DB FF|imul ebx, ebx, FFFFFFFF
+66 6B C1 05|imul ax, cx, 0005
+0F AF C2|imul eax, edx
+C0 C0 01|rol al, 01
+C1 E0 1F|shl eax, 1F
+66 C1 F8 02|sar ax, 02
+D0 C8|ror al, 01
+D1 F8|sar eax, 01
+D2 20|shl byte [eax], cl
+D3 E8|shr eax, cl
+74 00|je 08048002
+2E 74 00|je 08048003
+0F 8F FA FF FF FF|jg 08048000
+0F 94 C0|sete al
+0F 92 F9|setb cl
+0F 9F 45 FF|setg byte [ebp+FFFFFFFF]
+0F 44 C1|cmove eax, ecx
+66 0F 4D 01|cmovge ax, word [ecx]
+0F B6 C0|movzx eax, al
+66 0F B6 C9|movzx cx, cl
+0F B7 00|movzx eax, word [eax]
+0F BE 42 01|movsx eax, byte [edx+00000001]
+0F BF C1|movsx eax, cx
+EB FE|jmp 08048000
+E9 04 03 02 01|jmp 09068309
+E8 FB FF FF FF|call 08048000
+C3|ret
+F3 C3|ret
+C2 08 00|ret 0008
+C9|leave
+98|cwde
+66 98|cbw
+99|cdq
+66 99|cwd
+E0 FE|loopne 08048000
+E1 00|loope 08048002
+E2 FE|loop 08048000
+E3 05|jecxz 08048007
+A4|movsb
+A5|movsd
+66 A5|movsw
+F3 A5|rep movsd
+64 A5|movsd fs
+F3 65 66 A5|rep movsw gs
+A6|cmpsb
+F3 A6|repe cmpsb
+F2 A7|repne cmpsd
+AA|stosb
+64 AA|stosb
+F3 AB|rep stosd
+AC|lodsb
+65 AD|lodsd gs
+F3 AC|rep lodsb
+AE|scasb
+F2 AE|repne scasb
+F3 66 AF|repe scasw
+F5|cmc
+F8|clc
+F9|stc
+FC|cld
+FD|std
+9E|sahf
+9F|lahf
+0F C8|bswap eax
+0F CF|bswap edi
+0F 1F 00|nop dword [eax]
+64 0F 1F 00|nop dword [eax]
+66 0F 1F 84 00 00 00 00 00|nop word [eax+eax*1]
+F3 0F 1E FB|endbr32
+0F 0B|ud2
+CC|int3
+F4|hlt
+66 66 90|nop
+66 66 66 66 66 66 66 66 66 66 66 66 66 66 90|nop
+66 66 66 66 66 66 66 66 66 66 66 66 F7 D0|not ax";
+
+/// Bytes in hexadecimal, and why no instruction stands there.
+const REFUSALS: &str = "\
+|Truncated
+FF|Truncated
+F0|Truncated
+F3 0F|Truncated
+F3 0F 1E|Truncated
+8B|Truncated
+8B 04|Truncated
+8B 04 25 00 00 00|Truncated
+66 81 C0 01|Truncated
+E9 00 00 00|Truncated
+66 66 66 66 66 66 66 66 66 66 66 66 66 66|Truncated
+66 66 66 66 66 66 66 66 66 66 66 66 66 F7|Truncated
+F0 F0 F0 F0 F0 F0 F0 F0 F0 F0 F0 F0 F0|Truncated
+F0 F0 F0 F0 F0 F0 F0 F0 F0 F0 F0 F0 F0 F0|TooLong
+66 66 66 66 66 66 66 66 66 66 66 66 66 66 66|TooLong
+66 66 66 66 66 66 66 66 66 66 66 66 66 66 66 90|TooLong
+66 66 66 66 66 66 66 66 66 66 66 66 81 C0|TooLong
+66 66 66 66 66 66 66 66 66 66 66 66 F7 C0|TooLong
+66 66 66 66 66 66 66 66 66 66 66 66 66 C7|TooLong
+66 66 66 66 66 66 66 66 66 66 66 66 66 66 C7 C8|TooLong
+66 66 66 66 66 66 66 66 66 66 66 66 66 C7 C8|NotListed 14
+64 65 90|NotListed 1
+64 65 67|NotListed 1
+67 90|NotListed 0
+F2 F3|NotListed 1
+F2 90|NotListed 1
+F2 A4|NotListed 1
+F0 90|NotListed 1
+F0 01 C0|NotListed 2
+F0 0F|NotListed 1
+66 F3 0F|NotListed 2
+F0 FF 10|NotListed 2
+F0 80 38 00|NotListed 2
+66 50|NotListed 1
+66 C3|NotListed 1
+F3 0F 0B|NotListed 2
+F3 0F 1E FA|NotListed 3
+0F 1E|NotListed 1
+0F 05|NotListed 1
+63 C0|NotListed 0
+06|NotListed 0
+8D C0|NotListed 1
+8F 08|NotListed 1
+C6 C8|NotListed 1
+F6 C8|NotListed 1
+FE D0|NotListed 1
+FF F8|NotListed 1
+C0 D0|NotListed 1
+D3 F0|NotListed 1
+0F 1F C8|NotListed 2";
+
+fn bytes_of(alloc: Global, words: &str) -> Result<Vec<u8>, Fail> {
+    let mut bytes = Vec::new(alloc);
+    for word in words.split_whitespace() {
+        bytes.push(u8::from_str_radix(word, 16)?)?;
+    }
+    Ok(bytes)
+}
+
+fn check_text(rt: &impl Abort, bytes: &[u8], text: &str) {
     match decode(bytes) {
         Ok((i, n)) => {
-            assert_eq!(rt; n, len);
+            assert_eq!(rt; usize::from(n), bytes.len(), "{text}");
             assert_eq!(rt; write_instr(0x0804_8000, &i, n).as_str(), text);
         }
-        Err(_) => assert!(rt; false, "refused"),
+        Err(fault) => assert!(rt; false, "{text}: {fault:?}"),
     }
 }
 
-fn expect_fault(rt: &impl Abort, bytes: &[u8], wanted: DecodeFault) {
+fn check_fault(rt: &impl Abort, bytes: &[u8], wanted: DecodeFault) {
     match decode(bytes) {
-        Ok(_) => assert!(rt; false, "decoded"),
+        Ok((_, n)) => assert!(rt; false, "an instruction of {n} bytes, not {wanted:?}"),
         Err(fault) => assert_eq!(rt; fault, wanted),
     }
 }
 
-#[test]
-fn each_row_has_its_text(rt: HostRuntime) {
-    let cases: [(&[u8], u8, &str); 8] = [
-        (&[0x90], 1, "nop"),
-        (&[0xCC], 1, "int3"),
-        (&[0xF4, 0x90], 1, "hlt"),
-        (&[0xEB, 0xFE], 2, "jmp 08048000"),
-        (&[0xEB, 0xFF, 0xC0], 2, "jmp 08048001"),
-        (&[0xEB, 0x7F], 2, "jmp 08048081"),
-        (&[0xE9, 0xFB, 0xFF, 0xFF, 0xFF], 5, "jmp 08048000"),
-        (&[0xE9, 0x04, 0x03, 0x02, 0x01], 5, "jmp 09068309"),
-    ];
-    for (bytes, len, text) in cases {
-        expect_text(&rt, bytes, len, text);
+fn fault_of(name: &str) -> Result<DecodeFault, Fail> {
+    if name == "Truncated" {
+        return Ok(DecodeFault::Truncated);
     }
+    if name == "TooLong" {
+        return Ok(DecodeFault::TooLong);
+    }
+    let (_, at) = name.split_once(' ').ok_or("a fault")?;
+    Ok(DecodeFault::NotListed {
+        at: at.parse::<u8>()?,
+    })
 }
 
 #[test]
-fn a_branch_target_wraps_round(rt: HostRuntime) {
-    let cases: [(&[u8], u8, &str); 2] = [
-        (&[0xE9, 0xFA, 0x7F, 0xFB, 0xF7], 5, "jmp FFFFFFFF"),
-        (&[0xE9, 0xFC, 0x7F, 0xFB, 0xF7], 5, "jmp 00000001"),
-    ];
-    for (bytes, len, text) in cases {
-        expect_text(&rt, bytes, len, text);
+fn each_instruction_has_its_text(rt: HostRuntime) -> Result<(), Fail> {
+    for line in TEXTS.lines() {
+        let (words, text) = line.split_once('|').ok_or("a line")?;
+        let bytes = bytes_of(rt.alloc(), words)?;
+        check_text(&rt, bytes.as_slice(), text);
     }
+    Ok(())
 }
 
 #[test]
-fn each_condition_has_its_ending(rt: HostRuntime) {
-    let cases: [(&[u8], u8, &str); 32] = [
-        (&[0x70, 0x10], 2, "jo 08048012"),
-        (&[0x71, 0x10], 2, "jno 08048012"),
-        (&[0x72, 0x10], 2, "jb 08048012"),
-        (&[0x73, 0x10], 2, "jae 08048012"),
-        (&[0x74, 0x10], 2, "je 08048012"),
-        (&[0x75, 0x10], 2, "jne 08048012"),
-        (&[0x76, 0x10], 2, "jbe 08048012"),
-        (&[0x77, 0x10], 2, "ja 08048012"),
-        (&[0x78, 0x10], 2, "js 08048012"),
-        (&[0x79, 0x10], 2, "jns 08048012"),
-        (&[0x7A, 0x10], 2, "jp 08048012"),
-        (&[0x7B, 0x10], 2, "jnp 08048012"),
-        (&[0x7C, 0x10], 2, "jl 08048012"),
-        (&[0x7D, 0x10], 2, "jge 08048012"),
-        (&[0x7E, 0x10], 2, "jle 08048012"),
-        (&[0x7F, 0x10], 2, "jg 08048012"),
-        (&[0x0F, 0x80, 0x10, 0, 0, 0], 6, "jo 08048016"),
-        (&[0x0F, 0x81, 0x10, 0, 0, 0], 6, "jno 08048016"),
-        (&[0x0F, 0x82, 0x10, 0, 0, 0], 6, "jb 08048016"),
-        (&[0x0F, 0x83, 0x10, 0, 0, 0], 6, "jae 08048016"),
-        (&[0x0F, 0x84, 0x10, 0, 0, 0], 6, "je 08048016"),
-        (&[0x0F, 0x85, 0x10, 0, 0, 0], 6, "jne 08048016"),
-        (&[0x0F, 0x86, 0x10, 0, 0, 0], 6, "jbe 08048016"),
-        (&[0x0F, 0x87, 0x10, 0, 0, 0], 6, "ja 08048016"),
-        (&[0x0F, 0x88, 0x10, 0, 0, 0], 6, "js 08048016"),
-        (&[0x0F, 0x89, 0x10, 0, 0, 0], 6, "jns 08048016"),
-        (&[0x0F, 0x8A, 0x10, 0, 0, 0], 6, "jp 08048016"),
-        (&[0x0F, 0x8B, 0x10, 0, 0, 0], 6, "jnp 08048016"),
-        (&[0x0F, 0x8C, 0x10, 0, 0, 0], 6, "jl 08048016"),
-        (&[0x0F, 0x8D, 0x10, 0, 0, 0], 6, "jge 08048016"),
-        (&[0x0F, 0x8E, 0x10, 0, 0, 0], 6, "jle 08048016"),
-        (&[0x0F, 0x8F, 0x10, 0, 0, 0], 6, "jg 08048016"),
-    ];
-    for (bytes, len, text) in cases {
-        expect_text(&rt, bytes, len, text);
+fn bytes_that_follow_are_not_read(rt: HostRuntime) -> Result<(), Fail> {
+    for line in TEXTS.lines() {
+        let (words, _) = line.split_once('|').ok_or("a line")?;
+        let mut bytes = bytes_of(rt.alloc(), words)?;
+        let len = bytes.len();
+        bytes.push(0x67)?;
+        let found = decode(bytes.as_slice()).map_or(0, |p| usize::from(p.1));
+        assert_eq!(rt; found, len, "{words}");
     }
+    Ok(())
 }
 
 #[test]
-fn what_begins_no_instruction_is_refused(rt: HostRuntime) {
-    let cases: [(&[u8], DecodeFault); 11] = [
-        (&[], DecodeFault::Truncated),
-        (&[0xEB], DecodeFault::Truncated),
-        (&[0xE9, 0, 0, 0], DecodeFault::Truncated),
-        (&[0x74], DecodeFault::Truncated),
-        (&[0x0F], DecodeFault::Truncated),
-        (&[0x0F, 0x84], DecodeFault::Truncated),
-        (&[0x0F, 0x8F, 0, 0, 0], DecodeFault::Truncated),
-        (&[0xC0, 0x90], DecodeFault::NotListed { at: 0 }),
-        (&[0x66, 0x90], DecodeFault::NotListed { at: 0 }),
-        (&[0x0F, 0x90, 0xC0], DecodeFault::NotListed { at: 1 }),
-        (&[0x0F, 0x7F], DecodeFault::NotListed { at: 1 }),
-    ];
-    for (bytes, fault) in cases {
-        expect_fault(&rt, bytes, fault);
+fn what_begins_no_instruction_is_refused(rt: HostRuntime) -> Result<(), Fail> {
+    for line in REFUSALS.lines() {
+        let (words, name) = line.split_once('|').ok_or("a line")?;
+        let bytes = bytes_of(rt.alloc(), words)?;
+        check_fault(&rt, bytes.as_slice(), fault_of(name)?);
     }
+    Ok(())
 }

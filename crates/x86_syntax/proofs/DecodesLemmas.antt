@@ -5,10 +5,9 @@ use Rattle.std.proofs.lemmas.List.{length-drop, length-take-le}
 use Rattle.std.proofs.lemmas.Option.{some_pair_parts}
 use Rattle.std.specs.Prelude.{nat_le}
 use Rattle.x86_syntax.specs.declared.instr.Instr.{Instr}
-use Rattle.x86_syntax.specs.Formats.{matched}
-use Rattle.x86_syntax.specs.Spelling.{spelled, spellings}
+use Rattle.x86_syntax.specs.Spelling.{spelled, spelled_with, no_prefixes}
 use Rattle.x86_syntax.specs.Decodes.{Decodes, HasSpelling, spelled_front, or_else, decoded_from, decoded}
-use Rattle.x86_syntax.proofs.FormatLemmas.{one_form}
+use Rattle.x86_syntax.proofs.SpellingLemmas.{prefix_law}
 
 pub take-split : (k m : ℕ) (xs : List ℕ) → k ≤ m → take m xs ≡ take k xs ++ drop k (take m xs)
 take-split zero m xs le = refl
@@ -35,7 +34,7 @@ shorter_none k n bytes i d lt =
       | (Some j) ↦ λ e.
           let c : Decodes bytes j k = front_decodes k bytes j (omega (arith, d.short)) e in
           let whole : spelled (take k bytes ++ drop k (take n bytes)) ≡ Some i = rw (sym (take-split k n bytes (omega arith))) d.names in
-          let none : drop k (take n bytes) ≡ [] = one_form spellings (take k bytes) (drop k (take n bytes)) j i c.names whole in
+          let none : drop k (take n bytes) ≡ [] = prefix_law no_prefixes (take k bytes) (drop k (take n bytes)) j i c.names whole in
           absurd (omega (arith, ap length none, length-drop k (take n bytes), length-take-le n bytes d.within))
     ]) refl
 
@@ -62,7 +61,7 @@ computes (suc tries) n bytes i m d low high =
     ]
 
 pub decodes_positive : (bytes : List ℕ) (i : Instr) (n : ℕ) → Decodes bytes i n → 1 ≤ n
-unfolding spellings matched
+unfolding spelled_with
 decodes_positive bytes i zero d = cc (d.names)
 decodes_positive bytes i (suc n) d = omega arith
 

@@ -1,4 +1,5 @@
 pub mod Formats
+pub mod Opcodes
 pub mod Spelling
 pub mod Decodes
 pub mod Text

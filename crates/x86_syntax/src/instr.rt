@@ -8,9 +8,66 @@ pub struct Cond(pub u8);
 /// What an instruction does, one variant for each mnemonic.
 #[derive(Clone, Copy)]
 pub enum Mnemonic {
+    Add,
+    Or,
+    Adc,
+    Sbb,
+    And,
+    Sub,
+    Xor,
+    Cmp,
+    Test,
+    Xchg,
     Nop,
+    Mov,
+    Lea,
+    Inc,
+    Dec,
+    Push,
+    Pop,
+    Call,
     Jmp,
+    Not,
+    Neg,
+    Mul,
+    Imul,
+    Div,
+    Idiv,
+    Rol,
+    Ror,
+    Shl,
+    Shr,
+    Sar,
     J(Cond),
+    Set(Cond),
+    Cmov(Cond),
+    Movzx,
+    Movsx,
+    Ret,
+    Leave,
+    Cwde,
+    Cbw,
+    Cdq,
+    Cwd,
+    Loopne,
+    Loope,
+    Loop,
+    Jecxz,
+    Movs,
+    Cmps,
+    Stos,
+    Lods,
+    Scas,
+    Cmc,
+    Clc,
+    Stc,
+    Cld,
+    Std,
+    Sahf,
+    Lahf,
+    Bswap,
+    Endbr32,
+    Ud2,
     Int3,
     Hlt,
 }
@@ -51,7 +108,19 @@ pub enum Operand {
     Offset(i32),
 }
 
+/// What a ModRM byte and the bytes behind it point at: a register, or memory at an address without its segment.
+#[derive(Clone, Copy)]
+pub enum Place {
+    Register(u8),
+    Memory(Address),
+}
+
 impl Default for Operand {
+    ghost use Rattle.std.specs.Prelude.{◌≡◌, pos};
+    ghost use Rattle.x86_syntax.specs.declared.instr.Operand.TheVariants.{Offset};
+
+    ghost is_default = { λ op. op ≡ Offset (pos 0) };
+
     fn default() -> Operand {
         Operand::Offset(0)
     }
@@ -59,8 +128,9 @@ impl Default for Operand {
 
 /// An instruction as its bytes name it.
 ///
-/// `w` is the first operand's width, the element's width for string operations, and 32 where there is
-/// neither. `seg` is for string operations alone; a memory operand has its own in its address.
+/// `w` is the first operand's width, the element's width for string operations, 16 for NOP, CBW and CWD behind
+/// the prefix 66, and 32 for all others. `seg` is for string operations alone; a memory operand has its own in its
+/// address.
 #[derive(Drop)]
 pub struct Instr {
     pub name: Mnemonic,

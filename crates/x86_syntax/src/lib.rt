@@ -4,9 +4,11 @@
 #![tactic(auto)]
 
 mod instr;
+mod prefixes;
 mod table;
 mod text;
 
-pub use instr::{Address, Cond, Instr, Mnemonic, Operand, Repeat, Seg};
-pub use table::{Form, Map, Name, ROWS, Row, find_row};
+pub use instr::{Address, Cond, Instr, Mnemonic, Operand, Place, Repeat, Seg};
+pub use prefixes::{Group, Prefixes};
+pub use table::{Form, Forms, Map, Name, ROWS, Repeats, Row, find_opcode, find_row};
 pub use text::write_instr;
