@@ -5,9 +5,8 @@
 
 use jakstab_core::jakstab;
 use outside_io::{FileShelf, StandardStream, StreamSink};
-use std::env;
-use std::io;
 use std::process::ExitCode;
+use std::{env, io};
 
 fn main(rt: HostRuntime) -> ExitCode {
     let alloc = rt.alloc();
