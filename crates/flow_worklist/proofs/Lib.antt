@@ -1,3 +1,4 @@
+pub mod Meaning
 pub mod Fetching
 pub mod Posting
 pub mod Expanding

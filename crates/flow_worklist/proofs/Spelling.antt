@@ -6,7 +6,8 @@ use Rattle.std.proofs.lemmas.Option.{slice_get_within}
 use Rattle.std.proofs.lemmas.Bool.{eqb-true, eqb-false}
 use Rattle.memory_map.specs.Image.{Image, EXIT_PLACE, name_at}
 use Rattle.x86_syntax.specs.declared.instr.Instr.{Instr}
-use Rattle.x86_syntax.specs.Decodes.{Decodes, decoded}
+use Rattle.x86_syntax.specs.Decodes.{Decodes}
+use Rattle.x86_semantics.specs.Meant.{listed}
 use Rattle.x86_syntax.proofs.DecodesLemmas.{decoded_finds}
 use Rattle.flow_log.specs.declared.edge.Edge.{Edge}
 use Rattle.flow_log.specs.declared.edge.Label.{Label}
@@ -22,6 +23,7 @@ use Rattle.automaton_text.specs.Text.{IsSpelled, AreSpelled}
 use Rattle.x86_machine.specs.Machine.{label_by}
 use Rattle.flow_worklist.specs.Post.{NoState, image_bytes, post}
 use Rattle.flow_worklist.specs.Analysis.{ImageLog, analysis_of, image_log, automaton_of, edge_from}
+use Rattle.flow_worklist.proofs.Meaning.{IsListed, listed_found}
 use Rattle.flow_worklist.proofs.Posting.{post-exit, post-name, post-none, label-instr}
 
 module _ (image : Image) where
@@ -33,18 +35,18 @@ module _ (image : Image) where
   no_pair pairs pair P none held = let Q : List (ℕ × NoState) → Type 0 = λ ps. Contains ps pair in absurd (Contains-none pair (subst Q none held))
 
   spelled_found : (a : ℕ) (pair : ℕ × NoState) (name : Option (List ℕ)) (d : Option (Instr × ℕ)) → (a ≡ EXIT_PLACE → ⊥) → name_at image a ≡ name
-      → decoded (image_bytes image a) ≡ d → Contains (post image a).next pair → IsSpelled (label_by (name_at image a) (image_bytes image a))
+      → listed (image_bytes image a) ≡ d → Contains (post image a).next pair → IsSpelled (label_by (name_at image a) (image_bytes image a))
   spelled_found a pair (Some name) d off named found held = no_pair (post image a).next pair _ (ap (λ x. x.next) (post-name image a name off named)) held
   spelled_found a pair None None off named found held = no_pair (post image a).next pair _ (ap (λ x. x.next) (post-none image a off named found)) held
   spelled_found a pair None (Some p) off named found held =
       let P : Label → Type 0 = IsSpelled in
-      let there : Decodes (image_bytes image a) p.0 p.1 = decoded_finds (image_bytes image a) p.0 p.1 found in
+      let there : Decodes (image_bytes image a) p.0 p.1 = decoded_finds (image_bytes image a) p.0 p.1 (listed_found (image_bytes image a) p.0 p.1 found).decodes in
       subst P (sym (label-instr image a p.0 p.1 named found)) (p.0, there.names)
 
   spelled_at : (a : ℕ) (pair : ℕ × NoState) (b : Bool) → (a == EXIT_PLACE) ≡ b → Contains (post image a).next pair → Spelled (edge_from image a pair.0)
   unfolding edge_from
   spelled_at a pair true is held = no_pair (post image a).next pair _ (ap (λ x. x.next) (post-exit image a (eqb-true a EXIT_PLACE is))) held
-  spelled_at a pair false is held = spelled_found a pair (name_at image a) (decoded (image_bytes image a)) (eqb-false a EXIT_PLACE is) refl refl held
+  spelled_at a pair false is held = spelled_found a pair (name_at image a) (listed (image_bytes image a)) (eqb-false a EXIT_PLACE is) refl refl held
 
   spelled_pairs : (budget number : ℕ) (row : Row NoState) (pairs : List (ℕ × NoState)) (log : ImageLog)
       → ((pair : ℕ × NoState) → Contains pairs pair → Spelled (edge_from image row.location pair.0))

@@ -8,9 +8,9 @@ use Rattle.memory_map.specs.Image.{Image, EXIT_PLACE, name_at}
 use Rattle.memory_map.specs.State.{MachineState, memory}
 use Rattle.x86_syntax.specs.declared.instr.Instr.{Instr}
 use Rattle.x86_syntax.specs.declared.instr.Mnemonic.{Mnemonic}
-use Rattle.x86_syntax.specs.declared.instr.Mnemonic.TheVariants.{Nop, Jmp, J, Int3, Hlt}
+use Rattle.x86_syntax.specs.declared.instr.Mnemonic.TheVariants.{Nop, Jmp, J}
 use Rattle.x86_syntax.specs.declared.instr.Operand.{Operand}
-use Rattle.x86_syntax.specs.Decodes.{decoded}
+use Rattle.x86_semantics.specs.Meant.{listed}
 use Rattle.x86_semantics.specs.Condition.{is_met}
 use Rattle.x86_semantics.specs.Does.{does, does_named, at_address, after, branch_target}
 use Rattle.x86_machine.specs.StepBy.{StepBy, AtName, AtInstr, stepped, exited, fetched, outcome_of, LONGEST}
@@ -22,7 +22,7 @@ use Rattle.flow_log.specs.Sound.{Sound, IsFound}
 use Rattle.flow_log.proofs.Members.{Contains-here, Contains-later, Contains-map}
 use Rattle.flow_worklist.specs.Post.{NoState, Written, is_touched, meets_touched, image_bytes, targets, targets_named, post, at_instr, at_name, nothing, fixed_causes, fixed_at_name, fixed_at_instr}
 use Rattle.flow_worklist.specs.Analysis.{analysis_of, edge_from, Keeps}
-use Rattle.flow_worklist.proofs.Fetching.{run_agrees, decoded_agrees, none_passes}
+use Rattle.flow_worklist.proofs.Fetching.{run_agrees, listed_agrees, none_passes}
 
 -- an instruction leads to one of its targets, and leaves memory as it was
 record IsLanded (m next : MachineState) (tos : List ℕ) : Type 0 where
@@ -53,8 +53,7 @@ landed_named Jmp ops n m next e =
 landed_named (J c) ops n m next e =
     let P : MachineState → Type 0 = λ s. IsLanded m s (targets_named (J c) ops m.eip n) in
     subst P (ok_same _ next e) (at_target m _ (targets_named (J c) ops m.eip n) (one_of_two (is_met c m.flags) (branch_target ops n m) (after n m)))
-landed_named Int3 ops n m next e = cc
-landed_named Hlt ops n m next e = cc
+landed_named _ ops n m next e = cc
 
 landed : (i : Instr) (n : ℕ) (choice : Choice) (m next : MachineState) → does i n choice m ≡ Ok next → IsLanded m next (targets i m.eip n)
 unfolding does targets
@@ -64,7 +63,7 @@ landed i n choice m next e = landed_named i.name i.ops.items n m next e
 record IsStepped (image : Image) (choice : Choice) (m next : MachineState) : Type 0 where
   runs : (m.eip == EXIT_PLACE) ≡ false
   unnamed : name_at image m.eip ≡ None
-  at : AtInstr (decoded (fetched m)) choice m (fetched m) (stepped next)
+  at : AtInstr (listed (fetched m)) choice m (fetched m) (stepped next)
 
 unnamed_of : (image : Image) (choice : Choice) (m next : MachineState) (name : Option (List ℕ)) → name_at image m.eip ≡ name → (m.eip == EXIT_PLACE) ≡ false
     → AtName name choice m (stepped next) → IsStepped image choice m next
@@ -91,7 +90,7 @@ module _ (image : Image) (ws : List Written) (m next : MachineState) (keeps : Ke
   record HasInstr : Type 0 where
     instr : Instr
     size : ℕ
-    found : decoded (image_bytes image m.eip) ≡ Some (instr, size)
+    found : listed (image_bytes image m.eip) ≡ Some (instr, size)
     untouched : meets_touched image ws m.eip size ≡ false
 
   clear_of : (i : Instr) (n : ℕ) (t : Bool) → meets_touched image ws m.eip n ≡ t
@@ -99,7 +98,7 @@ module _ (image : Image) (ws : List Written) (m next : MachineState) (keeps : Ke
   clear_of i n true is never = absurd (never causes.Code (Contains-here causes.Code []))
   clear_of i n false is never = is
 
-  instr_of : (d : Option (Instr × ℕ)) → decoded (image_bytes image m.eip) ≡ d
+  instr_of : (d : Option (Instr × ℕ)) → listed (image_bytes image m.eip) ≡ d
       → ((c : Cause) → Contains (fixed_at_instr d image ws m.eip) c → ⊥) → HasInstr
   instr_of None is never = absurd (never causes.Bytes (Contains-here causes.Bytes []))
   instr_of (Some p) is never = record { instr = p.0; size = p.1; found = is; untouched = clear_of p.0 p.1 (meets_touched image ws m.eip p.1) refl never }
@@ -107,16 +106,16 @@ module _ (image : Image) (ws : List Written) (m next : MachineState) (keeps : Ke
   has_instr : (m.eip == EXIT_PLACE) ≡ false → name_at image m.eip ≡ None → HasInstr
   unfolding fixed_causes
   has_instr runs unnamed =
-      let listed : fixed_causes image ws m.eip ≡ fixed_at_instr (decoded (image_bytes image m.eip)) image ws m.eip =
-      ap (λ b. cond b [] (fixed_at_name (name_at image m.eip) (fixed_at_instr (decoded (image_bytes image m.eip)) image ws m.eip))) runs
-      ∙ ap (λ o. fixed_at_name o (fixed_at_instr (decoded (image_bytes image m.eip)) image ws m.eip)) unnamed in
+      let causes_are : fixed_causes image ws m.eip ≡ fixed_at_instr (listed (image_bytes image m.eip)) image ws m.eip =
+      ap (λ b. cond b [] (fixed_at_name (name_at image m.eip) (fixed_at_instr (listed (image_bytes image m.eip)) image ws m.eip))) runs
+      ∙ ap (λ o. fixed_at_name o (fixed_at_instr (listed (image_bytes image m.eip)) image ws m.eip)) unnamed in
       let No : List Cause → Type 0 = λ cs. (c : Cause) → Contains cs c → ⊥ in
-      instr_of (decoded (image_bytes image m.eip)) refl (subst No listed none)
+      instr_of (listed (image_bytes image m.eip)) refl (subst No causes_are none)
 
   -- the machine fetches it too
-  fetches : (h : HasInstr) → (decoded (fetched m) ≡ Some (h.instr, h.size)) × (take h.size (fetched m) ≡ take h.size (image_bytes image m.eip))
+  fetches : (h : HasInstr) → (listed (fetched m) ≡ Some (h.instr, h.size)) × (take h.size (fetched m) ≡ take h.size (image_bytes image m.eip))
   unfolding fetched image_bytes meets_touched
-  fetches h = decoded_agrees (fetched m) (image_bytes image m.eip) h.instr h.size h.found
+  fetches h = listed_agrees (fetched m) (image_bytes image m.eip) h.instr h.size h.found
       (λ within. run_agrees (code_at image.segments) (code_at (memory m)) LONGEST h.size m.eip
       (λ i less. keeps.code (m.eip + i) (none_passes (is_touched image ws) m.eip h.size i h.untouched less)) within)
 
@@ -124,7 +123,7 @@ module _ (image : Image) (ws : List Written) (m next : MachineState) (keeps : Ke
   record IsDoing (choice : Choice) : Type 0 where
     instr : Instr
     size : ℕ
-    found : decoded (image_bytes image m.eip) ≡ Some (instr, size)
+    found : listed (image_bytes image m.eip) ≡ Some (instr, size)
     same_label : label_by (name_at image m.eip) (image_bytes image m.eip) ≡ label_at image m
     next_pairs : (post image m.eip).next ≡ map (λ target. (target, tt)) (targets instr m.eip size)
     lands : IsLanded m next (targets instr m.eip size)
@@ -137,15 +136,15 @@ module _ (image : Image) (ws : List Written) (m next : MachineState) (keeps : Ke
       let there = fetches h in
       let at : AtInstr (Some (h.instr, h.size)) choice m (fetched m) (stepped next) =
       (let P : Option (Instr × ℕ) → Type 0 = λ d. AtInstr d choice m (fetched m) (stepped next) in subst P there.0 is.at) in
-      let label : (bytes : List ℕ) → decoded bytes ≡ Some (h.instr, h.size) → label_by (name_at image m.eip) bytes ≡ Code (record { items = take h.size bytes }) =
+      let label : (bytes : List ℕ) → listed bytes ≡ Some (h.instr, h.size) → label_by (name_at image m.eip) bytes ≡ Code (record { items = take h.size bytes }) =
       λ bytes found. ap (λ o. label_by o bytes) is.unnamed ∙ ap (λ d. Code (record { items = instr_bytes d bytes })) found in
       record {
         instr = h.instr;
         size = h.size;
         found = h.found;
         same_label = label (image_bytes image m.eip) h.found ∙ ap (λ items. Code (record { items = items })) (sym there.1) ∙ sym (label (fetched m) there.0);
-        next_pairs = ap (λ b. (cond b nothing (at_name (name_at image m.eip) (at_instr (decoded (image_bytes image m.eip)) m.eip))).next) is.runs
-            ∙ ap (λ o. (at_name o (at_instr (decoded (image_bytes image m.eip)) m.eip)).next) is.unnamed
+        next_pairs = ap (λ b. (cond b nothing (at_name (name_at image m.eip) (at_instr (listed (image_bytes image m.eip)) m.eip))).next) is.runs
+            ∙ ap (λ o. (at_name o (at_instr (listed (image_bytes image m.eip)) m.eip)).next) is.unnamed
             ∙ ap (λ d. (at_instr d m.eip).next) h.found;
         lands = landed h.instr h.size choice m next (done_of (does h.instr h.size choice m) next at);
       }

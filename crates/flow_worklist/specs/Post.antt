@@ -6,9 +6,9 @@ use Rattle.memory_map.specs.Range.{code_at, run_of}
 use Rattle.memory_map.specs.Image.{Image, is_in_span, EXIT_PLACE, name_at}
 use Rattle.x86_syntax.specs.declared.instr.Instr.{Instr}
 use Rattle.x86_syntax.specs.declared.instr.Mnemonic.{Mnemonic}
-use Rattle.x86_syntax.specs.declared.instr.Mnemonic.TheVariants.{Nop, Jmp, J, Int3, Hlt}
+use Rattle.x86_syntax.specs.declared.instr.Mnemonic.TheVariants.{Nop, Jmp, J}
 use Rattle.x86_syntax.specs.declared.instr.Operand.{Operand}
-use Rattle.x86_syntax.specs.Decodes.{decoded}
+use Rattle.x86_semantics.specs.Meant.{listed}
 use Rattle.x86_semantics.specs.Does.{offset_of}
 use Rattle.x86_machine.specs.StepBy.{LONGEST}
 use Rattle.flow_log.specs.declared.cause.Cause.{Cause}
@@ -50,8 +50,7 @@ abbrev pub targets_named : Mnemonic → List Operand → ℕ → ℕ → List �
 targets_named Nop ops a n = next_address a n ∷ []
 targets_named Jmp ops a n = target_address ops a n ∷ []
 targets_named (J c) ops a n = target_address ops a n ∷ next_address a n ∷ []
-targets_named Int3 ops a n = []
-targets_named Hlt ops a n = []
+targets_named _ ops a n = []
 
 unfoldable pub targets : Instr → ℕ → ℕ → List ℕ
 targets i a n = targets_named i.name i.ops.items a n
@@ -72,7 +71,7 @@ at_name (Some name) other = caused causes.NoStub
 
 -- the expansion of a row at an address
 unfoldable pub post : Image → ℕ → RowExpansion
-post image a = if a == EXIT_PLACE then nothing else at_name (name_at image a) (at_instr (decoded (image_bytes image a)) a)
+post image a = if a == EXIT_PLACE then nothing else at_name (name_at image a) (at_instr (listed (image_bytes image a)) a)
 
 abbrev pub fixed_at_instr : Option (Instr × ℕ) → Image → List Written → ℕ → List Cause
 fixed_at_instr None image writes a = causes.Bytes ∷ []
@@ -84,4 +83,4 @@ fixed_at_name (Some name) other = causes.NoStub ∷ []
 
 -- the causes that hold of an address by all written ranges, whatever rows are there
 unfoldable pub fixed_causes : Image → List Written → ℕ → List Cause
-fixed_causes image writes a = if a == EXIT_PLACE then [] else fixed_at_name (name_at image a) (fixed_at_instr (decoded (image_bytes image a)) image writes a)
+fixed_causes image writes a = if a == EXIT_PLACE then [] else fixed_at_name (name_at image a) (fixed_at_instr (listed (image_bytes image a)) image writes a)

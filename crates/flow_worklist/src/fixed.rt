@@ -3,10 +3,10 @@ ghost use Rattle.std.specs.List.{list_any};
 ghost use Rattle.memory_map.specs.Image.{EXIT_PLACE, is_in_span, name_at};
 ghost use Rattle.flow_worklist.specs.Post.{fixed_causes, is_touched, meets_touched};
 
+use crate::listed::listed;
 use flow_log::Cause;
 use image_loader::Image;
 use memory_map::{Span, USER_END};
-use x86_decoder::decode;
 
 /// The cause that holds of an address by all written ranges, whatever rows are there.
 pub fn fixed_cause(image: &Image, writes: &[(u32, u32)], at: u32) -> Option<Cause>
@@ -27,15 +27,15 @@ fn fixed_cause_of_code(image: &Image, writes: &[(u32, u32)], at: u32) -> Option<
     requires unnamed { name_at image.now at ≡ None }
     ensures { fixed_causes image.now writes.now at ≡ option_to_list result }
 {
-    match decode(image.fetch(at).as_slice()) {
-        Ok((_, len)) => {
+    match listed(image.fetch(at).as_slice()) {
+        Some((_, len)) => {
             if meets_touched(image, writes, at, len) {
                 Some(Cause::Code)
             } else {
                 None
             }
         }
-        Err(_) => Some(Cause::Bytes),
+        None => Some(Cause::Bytes),
     }
 }
 

@@ -6,6 +6,7 @@
 mod automaton;
 mod exploring;
 mod fixed;
+mod listed;
 mod log;
 mod post;
 

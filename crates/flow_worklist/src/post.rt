@@ -4,11 +4,11 @@ ghost use Rattle.x86_semantics.specs.Does.{offset_of};
 ghost use Rattle.flow_worklist.specs.Post.{next_address, target_address, targets};
 ghost use Rattle.flow_worklist.specs.Posted.{Posted};
 
+use crate::listed::listed;
 use arrayvec::ArrayVec;
 use flow_log::Cause;
 use image_loader::Image;
 use memory_map::USER_END;
-use x86_decoder::decode;
 use x86_syntax::{Instr, Mnemonic, Operand};
 
 /// What the expansion of a row gives.
@@ -45,12 +45,12 @@ fn decoded(image: &Image, at: u32) -> Post
     ensures { Posted image.now at result }
 {
     let bytes = image.fetch(at);
-    match decode(bytes.as_slice()) {
-        Ok((i, len)) => Post::Leads {
+    match listed(bytes.as_slice()) {
+        Some((i, len)) => Post::Leads {
             targets: targets(&i, at, len),
             bytes: first(bytes, len),
         },
-        Err(_) => Post::Open(Cause::Bytes),
+        None => Post::Open(Cause::Bytes),
     }
 }
 
@@ -96,8 +96,7 @@ fn targets(i: &Instr, at: u32, len: u8) -> ArrayVec<u32, 2>
             found.push(target_address(i.ops.as_slice(), at, len));
             found.push(next_address(at, len));
         }
-        Mnemonic::Int3 => {}
-        Mnemonic::Hlt => {}
+        _ => {}
     }
     found
 }

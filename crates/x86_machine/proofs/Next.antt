@@ -6,7 +6,7 @@ use Rattle.memory_map.specs.Image.{EXIT_PLACE, name_at}
 use Rattle.memory_map.specs.State.{MachineState}
 use Rattle.x86_syntax.specs.declared.instr.Instr.{Instr}
 use Rattle.x86_syntax.specs.declared.instr.Mnemonic.{Mnemonic}
-use Rattle.x86_syntax.specs.declared.instr.Mnemonic.TheVariants.{Nop, Jmp, J, Int3, Hlt}
+use Rattle.x86_syntax.specs.declared.instr.Mnemonic.TheVariants.{Nop, Jmp, J}
 use Rattle.x86_syntax.specs.declared.instr.Operand.{Operand}
 use Rattle.x86_semantics.specs.Does.{does, does_named}
 use Rattle.x86_machine.specs.StepBy.{StepBy, AtName, AtInstr, stepped, exited, fetched, outcome_of}
@@ -16,8 +16,7 @@ done : (name : Mnemonic) (ops : List Operand) (n : ℕ) (m : MachineState) → G
 done Nop ops n m goes = (_, refl)
 done Jmp ops n m goes = (_, refl)
 done (J c) ops n m goes = (_, refl)
-done Int3 ops n m goes = absurd goes
-done Hlt ops n m goes = absurd goes
+done _ ops n m goes = absurd goes
 
 pub has_next_state : HasNextState
 unfolding StepBy does

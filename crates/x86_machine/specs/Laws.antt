@@ -5,20 +5,19 @@ use Rattle.memory_map.specs.Image.{Image, EXIT_PLACE, name_at}
 use Rattle.memory_map.specs.State.{MachineState}
 use Rattle.x86_syntax.specs.declared.instr.Instr.{Instr}
 use Rattle.x86_syntax.specs.declared.instr.Mnemonic.{Mnemonic}
-use Rattle.x86_syntax.specs.declared.instr.Mnemonic.TheVariants.{Nop, Jmp, J, Int3, Hlt}
-use Rattle.x86_syntax.specs.Decodes.{decoded}
+use Rattle.x86_syntax.specs.declared.instr.Mnemonic.TheVariants.{Nop, Jmp, J}
+use Rattle.x86_semantics.specs.Meant.{listed}
 use Rattle.x86_machine.specs.StepBy.{StepBy, stepped, fetched}
 
--- all but INT3 and HLT
+-- those that are meant, but for INT3 and HLT
 abbrev pub GoesOn : Mnemonic → Type 0
 GoesOn Nop = ⊤
 GoesOn Jmp = ⊤
 GoesOn (J c) = ⊤
-GoesOn Int3 = ⊥
-GoesOn Hlt = ⊥
+GoesOn _ = ⊥
 
 -- at such an instruction every choice has a next state
 abbrev pub HasNextState : Type 0
 HasNextState =
     (image : Image) (choice : Choice) (m : MachineState) (i : Instr) (n : ℕ) → m.eip ≢ EXIT_PLACE → name_at image m.eip ≡ None
-    → decoded (fetched m) ≡ Some (i, n) → GoesOn i.name → (next : MachineState) × StepBy image choice m (stepped next)
+    → listed (fetched m) ≡ Some (i, n) → GoesOn i.name → (next : MachineState) × StepBy image choice m (stepped next)

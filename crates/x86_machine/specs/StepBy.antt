@@ -8,7 +8,7 @@ use Rattle.memory_map.specs.Range.{code_at, run_of}
 use Rattle.memory_map.specs.Image.{Image, EXIT_PLACE, name_at}
 use Rattle.memory_map.specs.State.{MachineState, memory}
 use Rattle.x86_syntax.specs.declared.instr.Instr.{Instr}
-use Rattle.x86_syntax.specs.Decodes.{decoded}
+use Rattle.x86_semantics.specs.Meant.{listed}
 use Rattle.x86_decoder.specs.Refusals.{GoesOn}
 use Rattle.x86_semantics.specs.Does.{does}
 
@@ -47,7 +47,7 @@ AtInstr None choice m bytes outcome = NoInstr bytes outcome
 -- at the place of an import; no stub says yet what one does
 abbrev pub AtName : Option (List ℕ) → Choice → MachineState → Outcome → Type 0
 AtName (Some name) choice m outcome = outcome ≡ no_stub
-AtName None choice m outcome = AtInstr (decoded (fetched m)) choice m (fetched m) outcome
+AtName None choice m outcome = AtInstr (listed (fetched m)) choice m (fetched m) outcome
 
 -- the outcome of a step from m under a choice
 unfoldable pub StepBy : Image → Choice → MachineState → Outcome → Type 0

@@ -8,7 +8,7 @@ use Rattle.x86_syntax.specs.declared.instr.Operand.{Operand}
 use Rattle.x86_syntax.specs.declared.instr.Operand.TheVariants.{Offset}
 use Rattle.memory_map.specs.declared.choice.Choice.{Choice}
 use Rattle.memory_map.specs.declared.fault.FaultKind.{FaultKind}
-use Rattle.memory_map.specs.declared.fault.FaultKind.TheVariants.{Trap, Halt}
+use Rattle.memory_map.specs.declared.fault.FaultKind.TheVariants.{Trap, Halt, Undefined}
 use Rattle.memory_map.specs.State.{MachineState}
 use Rattle.x86_semantics.specs.Condition.{is_met}
 
@@ -38,6 +38,8 @@ does_named (J c) ops n m = Ok (at_address (if is_met c m.flags then branch_targe
 -- INT3, HLT: no user program goes on after them
 does_named Int3 ops n m = Err Trap
 does_named Hlt ops n m = Err Halt
+-- no meaning so far: `meant` leaves these out, so none is ever done
+does_named _ ops n m = Err Undefined
 
 -- the instruction i of n bytes done on m: free flags and free results are the choice's
 unfoldable pub does : Instr → ℕ → Choice → MachineState → Result MachineState FaultKind

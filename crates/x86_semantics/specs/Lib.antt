@@ -1,2 +1,3 @@
 pub mod Condition
+pub mod Meant
 pub mod Does
