@@ -1,0 +1,5 @@
+pub mod Logic
+pub mod Covering
+pub mod Widening
+pub mod Starting
+pub mod Taking

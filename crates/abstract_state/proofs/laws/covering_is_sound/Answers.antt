@@ -1,0 +1,8 @@
+use Rattle.domain_laws.specs.Made.{values_of}
+use Rattle.abstract_state.proofs.Covering.{covering-is_sound}
+use Rattle.abstract_state.proofs.laws.covering_is_sound.Goals as goal
+
+pub returns : goal.returns
+returns g c =
+    let laws = g.met.D.Domain g.world.𝓛 g.world.𝓜 g.world.𝓡 ((λ s x. x), (λ x. x), (λ x. x), λ x. x) in
+    covering-is_sound (values_of g.D.Domain g.D.PartialEq.eq) laws.lawful
