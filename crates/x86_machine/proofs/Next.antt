@@ -2,6 +2,7 @@
 use Rattle.std.proofs.Common.{◌≡◌, ℕ, Bool, List, Option, Some, refl, sym, ap, subst, true, [], ◌∷◌}
 use Rattle.std.specs.Prelude.{Ok, MatchBool}
 use Rattle.std.proofs.lemmas.Bool.{ne_eqb}
+use Rattle.memory_map.specs.declared.choice.Choice.{Choice}
 use Rattle.memory_map.specs.Image.{EXIT_PLACE, name_at}
 use Rattle.memory_map.specs.State.{MachineState}
 use Rattle.x86_syntax.specs.declared.instr.Instr.{Instr}
