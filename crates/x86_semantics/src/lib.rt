@@ -7,7 +7,9 @@
 mod flag_rule;
 mod meant;
 mod operation;
+mod operations;
 
 pub use flag_rule::FlagRule;
 pub use meant::is_meant;
 pub use operation::{FlagChange, Looping, Operation, StringKind};
+pub use operations::operation_of;
