@@ -6,7 +6,7 @@ use Rattle.x86_syntax.specs.declared.instr.Instr.{Instr}
 use Rattle.x86_syntax.specs.Spelling.{spelled}
 use Rattle.x86_syntax.specs.Decodes.{Decodes}
 use Rattle.x86_semantics.specs.Meant.{listed}
-use Rattle.flow_worklist.proofs.Meaning.{IsListed, listed_found, listed_is}
+use Rattle.x86_semantics.proofs.Meaning.{IsListed, listed_found, listed_is}
 use Rattle.x86_syntax.proofs.DecodesLemmas.{decodes_computes, decoded_finds}
 
 -- the first n bytes are the same, and are there

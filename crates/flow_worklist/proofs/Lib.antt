@@ -1,4 +1,3 @@
-pub mod Meaning
 pub mod Fetching
 pub mod Posting
 pub mod Expanding

@@ -23,7 +23,7 @@ use Rattle.automaton_text.specs.Text.{IsSpelled, AreSpelled}
 use Rattle.x86_machine.specs.Machine.{label_by}
 use Rattle.flow_worklist.specs.Post.{NoState, image_bytes, post}
 use Rattle.flow_worklist.specs.Analysis.{ImageLog, analysis_of, image_log, automaton_of, edge_from}
-use Rattle.flow_worklist.proofs.Meaning.{IsListed, listed_found}
+use Rattle.x86_semantics.proofs.Meaning.{IsListed, listed_found}
 use Rattle.flow_worklist.proofs.Posting.{post-exit, post-name, post-none, label-instr}
 
 module _ (image : Image) where

@@ -8,11 +8,15 @@ use Rattle.memory_map.specs.Image.{Image, EXIT_PLACE, name_at}
 use Rattle.memory_map.specs.State.{MachineState, memory}
 use Rattle.x86_syntax.specs.declared.instr.Instr.{Instr}
 use Rattle.x86_syntax.specs.declared.instr.Mnemonic.{Mnemonic}
-use Rattle.x86_syntax.specs.declared.instr.Mnemonic.TheVariants.{Nop, Jmp, J}
+use Rattle.x86_syntax.specs.declared.instr.Mnemonic.TheVariants.{Nop, Jmp, J, Int3, Hlt}
 use Rattle.x86_syntax.specs.declared.instr.Operand.{Operand}
-use Rattle.x86_semantics.specs.Meant.{listed}
+use Rattle.x86_syntax.specs.declared.instr.Operand.TheVariants.{Offset}
+use Rattle.x86_semantics.specs.Meant.{listed, meant, meant_named}
 use Rattle.x86_semantics.specs.Condition.{is_met}
-use Rattle.x86_semantics.specs.Does.{does, does_named, at_address, after, branch_target}
+use Rattle.x86_semantics.specs.Operands.{at_address, after, branch_target}
+use Rattle.x86_semantics.specs.Operations.{operation_with, operation_of}
+use Rattle.x86_semantics.specs.Does.{does, done, result_of}
+use Rattle.x86_semantics.proofs.Meaning.{listed_found}
 use Rattle.x86_machine.specs.StepBy.{StepBy, AtName, AtInstr, stepped, exited, fetched, outcome_of, LONGEST}
 use Rattle.x86_machine.specs.Machine.{machine_of, edge_of, label_at, label_by, instr_bytes}
 use Rattle.flow_log.specs.declared.cause.Cause.{Cause}
@@ -43,21 +47,42 @@ one_of_two : (b : Bool) (taken past : ℕ) → Contains (taken ∷ past ∷ []) 
 one_of_two true taken past = Contains-here taken (past ∷ [])
 one_of_two false taken past = Contains-later taken past (past ∷ []) (Contains-here past [])
 
-landed_named : (name : Mnemonic) (ops : List Operand) (n : ℕ) (m next : MachineState) → does_named name ops n m ≡ Ok next → IsLanded m next (targets_named name ops m.eip n)
-landed_named Nop ops n m next e =
-    let P : MachineState → Type 0 = λ s. IsLanded m s (targets_named Nop ops m.eip n) in
-    subst P (ok_same _ next e) (at_target m (after n m) (targets_named Nop ops m.eip n) (Contains-here (after n m) []))
-landed_named Jmp ops n m next e =
-    let P : MachineState → Type 0 = λ s. IsLanded m s (targets_named Jmp ops m.eip n) in
-    subst P (ok_same _ next e) (at_target m (branch_target ops n m) (targets_named Jmp ops m.eip n) (Contains-here (branch_target ops n m) []))
-landed_named (J c) ops n m next e =
-    let P : MachineState → Type 0 = λ s. IsLanded m s (targets_named (J c) ops m.eip n) in
-    subst P (ok_same _ next e) (at_target m _ (targets_named (J c) ops m.eip n) (one_of_two (is_met c m.flags) (branch_target ops n m) (after n m)))
-landed_named _ ops n m next e = cc
+-- how a meant instruction ends
+abbrev Ends : Mnemonic → Instr → List Operand → ℕ → Choice → MachineState → MachineState → Type 0
+Ends name i ops n choice m next = result_of (done (operation_with name i ops) n choice m) ≡ Ok next
 
-landed : (i : Instr) (n : ℕ) (choice : Choice) (m next : MachineState) → does i n choice m ≡ Ok next → IsLanded m next (targets i m.eip n)
-unfolding does targets
-landed i n choice m next e = landed_named i.name i.ops.items n m next e
+int3_stops : (i : Instr) (ops : List Operand) (n : ℕ) (choice : Choice) (m next : MachineState) → Ends Int3 i ops n choice m next → ⊥
+int3_stops i [] n choice m next e = cc
+int3_stops i (a ∷ []) n choice m next e = cc
+int3_stops i (a ∷ b ∷ []) n choice m next e = cc
+int3_stops i (a ∷ b ∷ c ∷ []) n choice m next e = cc
+int3_stops i (a ∷ b ∷ c ∷ d ∷ rest) n choice m next e = cc
+
+hlt_stops : (i : Instr) (ops : List Operand) (n : ℕ) (choice : Choice) (m next : MachineState) → Ends Hlt i ops n choice m next → ⊥
+hlt_stops i [] n choice m next e = cc
+hlt_stops i (a ∷ []) n choice m next e = cc
+hlt_stops i (a ∷ b ∷ []) n choice m next e = cc
+hlt_stops i (a ∷ b ∷ c ∷ []) n choice m next e = cc
+hlt_stops i (a ∷ b ∷ c ∷ d ∷ rest) n choice m next e = cc
+
+landed_named : (name : Mnemonic) (i : Instr) (ops : List Operand) (n : ℕ) (choice : Choice) (m next : MachineState) → meant_named name ops ≡ true → Ends name i ops n choice m next
+    → IsLanded m next (targets_named name ops m.eip n)
+landed_named Nop i [] n choice m next means e =
+    let P : MachineState → Type 0 = λ s. IsLanded m s (targets_named Nop [] m.eip n) in
+    subst P (ok_same _ next e) (at_target m (after n m) (targets_named Nop [] m.eip n) (Contains-here (after n m) []))
+landed_named Jmp i (Offset o ∷ []) n choice m next means e =
+    let P : MachineState → Type 0 = λ s. IsLanded m s (targets_named Jmp (Offset o ∷ []) m.eip n) in
+    subst P (ok_same _ next e) (at_target m (branch_target o n m) (targets_named Jmp (Offset o ∷ []) m.eip n) (Contains-here (branch_target o n m) []))
+landed_named (J c) i (Offset o ∷ []) n choice m next means e =
+    let P : MachineState → Type 0 = λ s. IsLanded m s (targets_named (J c) (Offset o ∷ []) m.eip n) in
+    subst P (ok_same _ next e) (at_target m _ (targets_named (J c) (Offset o ∷ []) m.eip n) (one_of_two (is_met c m.flags) (branch_target o n m) (after n m)))
+landed_named Int3 i ops n choice m next means e = absurd (int3_stops i ops n choice m next e)
+landed_named Hlt i ops n choice m next means e = absurd (hlt_stops i ops n choice m next e)
+landed_named _ i _ n choice m next means e = cc
+
+landed : (i : Instr) (n : ℕ) (choice : Choice) (m next : MachineState) → meant i ≡ true → does i n choice m ≡ Ok next → IsLanded m next (targets i m.eip n)
+unfolding does targets operation_of meant
+landed i n choice m next means e = landed_named i.name i i.ops.items n choice m next means e
 
 -- what it is that a step leads somewhere
 record IsStepped (image : Image) (choice : Choice) (m next : MachineState) : Type 0 where
@@ -146,7 +171,7 @@ module _ (image : Image) (ws : List Written) (m next : MachineState) (keeps : Ke
         next_pairs = ap (λ b. (cond b nothing (at_name (name_at image m.eip) (at_instr (listed (image_bytes image m.eip)) m.eip))).next) is.runs
             ∙ ap (λ o. (at_name o (at_instr (listed (image_bytes image m.eip)) m.eip)).next) is.unnamed
             ∙ ap (λ d. (at_instr d m.eip).next) h.found;
-        lands = landed h.instr h.size choice m next (done_of (does h.instr h.size choice m) next at);
+        lands = landed h.instr h.size choice m next (listed_found (image_bytes image m.eip) h.instr h.size h.found).means (done_of (does h.instr h.size choice m) next at);
       }
 
   found : (choice : Choice) → IsDoing choice → IsFound (analysis_of image) (machine_of image) (λ s m. ⊤) tt m next

@@ -1,27 +1,37 @@
 -- Every instruction that is no fault has a next state.
-use Rattle.std.proofs.Common.{◌≡◌, ℕ, Bool, List, Option, Some, refl, sym, ap, subst}
+use Rattle.std.proofs.Common.{◌≡◌, ℕ, Bool, List, Option, Some, refl, sym, ap, subst, true, [], ◌∷◌}
 use Rattle.std.specs.Prelude.{Ok, MatchBool}
 use Rattle.std.proofs.lemmas.Bool.{ne_eqb}
+use Rattle.memory_map.specs.declared.choice.Choice.{Choice}
 use Rattle.memory_map.specs.Image.{EXIT_PLACE, name_at}
 use Rattle.memory_map.specs.State.{MachineState}
 use Rattle.x86_syntax.specs.declared.instr.Instr.{Instr}
 use Rattle.x86_syntax.specs.declared.instr.Mnemonic.{Mnemonic}
 use Rattle.x86_syntax.specs.declared.instr.Mnemonic.TheVariants.{Nop, Jmp, J}
 use Rattle.x86_syntax.specs.declared.instr.Operand.{Operand}
-use Rattle.x86_semantics.specs.Does.{does, does_named}
+use Rattle.x86_syntax.specs.declared.instr.Operand.TheVariants.{Offset}
+use Rattle.x86_semantics.specs.Meant.{meant_named, meant}
+use Rattle.x86_semantics.specs.Operations.{operation_with, operation_of}
+use Rattle.x86_semantics.specs.Does.{done, does, result_of}
+use Rattle.x86_semantics.proofs.Meaning.{listed_found}
 use Rattle.x86_machine.specs.StepBy.{StepBy, AtName, AtInstr, stepped, exited, fetched, outcome_of}
 use Rattle.x86_machine.specs.Laws.{GoesOn, HasNextState}
 
-done : (name : Mnemonic) (ops : List Operand) (n : ℕ) (m : MachineState) → GoesOn name → (next : MachineState) × (does_named name ops n m ≡ Ok next)
-done Nop ops n m goes = (_, refl)
-done Jmp ops n m goes = (_, refl)
-done (J c) ops n m goes = (_, refl)
-done _ ops n m goes = absurd goes
+-- a meaning that is no fault has a next state
+goes_on : (name : Mnemonic) (i : Instr) (ops : List Operand) (n : ℕ) (choice : Choice) (m : MachineState) → meant_named name ops ≡ true → GoesOn name
+    → (next : MachineState) × (result_of (done (operation_with name i ops) n choice m) ≡ Ok next)
+goes_on Nop i [] n choice m means goes = (_, refl)
+goes_on Jmp i (Offset o ∷ []) n choice m means goes = (_, refl)
+goes_on (J c) i (Offset o ∷ []) n choice m means goes = (_, refl)
+goes_on Nop i _ n choice m means goes = cc
+goes_on Jmp i _ n choice m means goes = cc
+goes_on (J c) i _ n choice m means goes = cc
+goes_on _ i ops n choice m means goes = absurd goes
 
 pub has_next_state : HasNextState
-unfolding StepBy does
+unfolding StepBy does operation_of meant
 has_next_state image choice m i n runs unnamed found goes =
-    let d = done i.name i.ops.items n m goes in
+    let d = goes_on i.name i i.ops.items n choice m (listed_found (fetched m) i n found).means goes in
     let at : AtInstr (Some (i, n)) choice m (fetched m) (stepped d.0) = ap outcome_of (sym d.1) in
     let Instr_at : Option (Instr × ℕ) → Type 0 = λ o. AtInstr o choice m (fetched m) (stepped d.0) in
     let Name_at : Option (List ℕ) → Type 0 = λ o. AtName o choice m (stepped d.0) in

@@ -1,46 +1,63 @@
 -- What an instruction does (manual, volume 2): the next state, or why there is none. On a fault nothing changes.
-use Rattle.std.specs.Prelude.{ℕ, ◌+◌, ◌%◌, ◌^◌, if◌then◌else◌, List, ◌∷◌, Result, Ok, Err, ℤ, pos}
-use Rattle.std.specs.Int.{cast_unsigned, w32}
-use Rattle.x86_syntax.specs.declared.instr.Instr.{Instr}
-use Rattle.x86_syntax.specs.declared.instr.Mnemonic.{Mnemonic}
-use Rattle.x86_syntax.specs.declared.instr.Mnemonic.TheVariants.{Nop, Jmp, J, Int3, Hlt}
-use Rattle.x86_syntax.specs.declared.instr.Operand.{Operand}
-use Rattle.x86_syntax.specs.declared.instr.Operand.TheVariants.{Offset}
+use Rattle.std.specs.Prelude.{ℕ, List, ◌∷◌, Result, Ok, Err, ℤ, pos}
 use Rattle.memory_map.specs.declared.choice.Choice.{Choice}
 use Rattle.memory_map.specs.declared.fault.FaultKind.{FaultKind}
-use Rattle.memory_map.specs.declared.fault.FaultKind.TheVariants.{Trap, Halt, Undefined}
 use Rattle.memory_map.specs.State.{MachineState}
-use Rattle.x86_semantics.specs.Condition.{is_met}
+use Rattle.x86_syntax.specs.declared.instr.Instr.{Instr}
+use Rattle.x86_syntax.specs.declared.instr.Operand.{Operand}
+use Rattle.x86_syntax.specs.declared.instr.Operand.TheVariants.{Offset}
+use Rattle.x86_semantics.specs.declared.operation.Operation.{Operation}
+use Rattle.x86_semantics.specs.declared.operation.Operation.TheVariants.{Combine, Carry, Compare, Move, Convert, Lea, Exchange, Shift, MultiplyLong, Multiply, Divide, Jump, Goto, Loop, JumpIfNoCount, Call, Return, Push, Pop, Leave, Set, MoveIf, Flag, LoadStatus, StoreStatus, Element, Nothing, Stop}
+use Rattle.x86_semantics.specs.Operands.{Ended, Next, Faulted, at_address, after}
+use Rattle.x86_semantics.specs.Operations.{operation_of}
+use Rattle.x86_semantics.specs.Arithmetic.{combine, carry, compare}
+use Rattle.x86_semantics.specs.Moves.{move, convert, lea, exchange, set, move_if, push, pop, leave}
+use Rattle.x86_semantics.specs.Shifts.{shift}
+use Rattle.x86_semantics.specs.Products.{multiply_long, multiply, divide}
+use Rattle.x86_semantics.specs.Flow.{jump, goto, loop, jump_if_no_count, call, return}
+use Rattle.x86_semantics.specs.Bits.{change_flag, load_status, store_status}
+use Rattle.x86_semantics.specs.Strings.{string}
 
--- the state at another address
-abbrev pub at_address : ℕ → MachineState → MachineState
-at_address a m = record m { eip = a }
-
--- the address after an instruction of n bytes
-abbrev pub after : ℕ → MachineState → ℕ
-after n m = (m.eip + n) % 2 ^ 32
-
--- the offset of a branch, which counts from the address after it
+-- the offset of a branch
 abbrev pub offset_of : List Operand → ℤ
 offset_of (Offset o ∷ rest) = o
 offset_of _ = pos 0
 
-abbrev pub branch_target : List Operand → ℕ → MachineState → ℕ
-branch_target ops n m = (m.eip + n + cast_unsigned w32 (offset_of ops)) % 2 ^ 32
+-- how an operation of n bytes ends on m: free flags are the choice's, and a fault leaves m
+abbrev pub done : Operation → ℕ → Choice → MachineState → Ended
+done (Combine op rule w to from) n choice m = combine op rule w to from (after n m) choice m
+done (Carry op rule w to from) n choice m = carry op rule w to from (after n m) choice m
+done (Compare op rule w left right) n choice m = compare op rule w left right (after n m) choice m
+done (Move to from) n choice m = move to from (after n m) m
+done (Convert op w to from by) n choice m = convert op w to from by (after n m) m
+done (Lea to address) n choice m = lea to address (after n m) m
+done (Exchange place w r) n choice m = exchange place w r (after n m) m
+done (Shift op rule w to count) n choice m = shift op rule w to count (after n m) choice m
+done (MultiplyLong high rule w from) n choice m = multiply_long high rule w from (after n m) choice m
+done (Multiply w to left right) n choice m = multiply w to left right (after n m) choice m
+done (Divide signed w by) n choice m = divide signed w by (after n m) choice m
+done (Jump c offset) n choice m = jump c offset n m
+done (Goto target) n choice m = goto target n m
+done (Loop kind offset) n choice m = loop kind offset n m
+done (JumpIfNoCount offset) n choice m = jump_if_no_count offset n m
+done (Call target) n choice m = call target n m
+done (Return extra) n choice m = return extra m
+done (Push from) n choice m = push from (after n m) m
+done (Pop to) n choice m = pop to (after n m) m
+done Leave n choice m = leave (after n m) m
+done (Set c to) n choice m = set c to (after n m) m
+done (MoveIf c to from) n choice m = move_if c to from (after n m) m
+done (Flag change) n choice m = change_flag change (after n m) m
+done LoadStatus n choice m = load_status (after n m) m
+done StoreStatus n choice m = store_status (after n m) m
+done (Element kind w seg repeat) n choice m = string kind w seg repeat (after n m) choice m
+done Nothing n choice m = Next (at_address (after n m) m)
+done (Stop kind) n choice m = Faulted kind m
 
-abbrev pub does_named : Mnemonic → List Operand → ℕ → MachineState → Result MachineState FaultKind
--- NOP: no operation
-does_named Nop ops n m = Ok (at_address (after n m) m)
--- JMP rel8, JMP rel32
-does_named Jmp ops n m = Ok (at_address (branch_target ops n m) m)
--- Jcc: taken where the condition is met
-does_named (J c) ops n m = Ok (at_address (if is_met c m.flags then branch_target ops n m else after n m) m)
--- INT3, HLT: no user program goes on after them
-does_named Int3 ops n m = Err Trap
-does_named Hlt ops n m = Err Halt
--- no meaning so far: `meant` leaves these out, so none is ever done
-does_named _ ops n m = Err Undefined
+abbrev pub result_of : Ended → Result MachineState FaultKind
+result_of (Next n) = Ok n
+result_of (Faulted kind m) = Err kind
 
 -- the instruction i of n bytes done on m: free flags and free results are the choice's
 unfoldable pub does : Instr → ℕ → Choice → MachineState → Result MachineState FaultKind
-does i n choice m = does_named i.name i.ops.items n m
+does i n choice m = result_of (done (operation_of i) n choice m)

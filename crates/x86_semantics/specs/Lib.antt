@@ -1,3 +1,15 @@
 pub mod Condition
 pub mod Meant
+pub mod Registers
+pub mod Memory
+pub mod FlagRules
+pub mod Operands
+pub mod Arithmetic
+pub mod Moves
+pub mod Flow
+pub mod Bits
+pub mod Shifts
+pub mod Products
+pub mod Strings
+pub mod Operations
 pub mod Does

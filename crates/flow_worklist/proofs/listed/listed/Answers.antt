@@ -1,6 +1,6 @@
 -- An instruction that decodes is listed where it has a meaning.
 use Rattle.std.proofs.Common.{◌≡◌, sym, ◌∙◌}
-use Rattle.flow_worklist.proofs.Meaning.{listed_is, not_meant, not_decoded}
+use Rattle.x86_semantics.proofs.Meaning.{listed_is, not_meant, not_decoded}
 use Rattle.flow_worklist.proofs.listed.listed.Goals as goal
 
 pub returns-then-is_meant-clause-found : goal.returns-then-is_meant-clause-found

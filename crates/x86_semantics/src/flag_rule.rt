@@ -1,0 +1,37 @@
+/// A way to compute the status flags of an instruction from its operands `a` and `b`, its result, and the flags before
+/// (`specs/FlagRules.antt`).
+#[derive(Clone, Copy)]
+pub enum FlagRule {
+    /// ADD: all six by `a + b`.
+    Sum,
+    /// ADC: all six by `a + b + CF`.
+    SumWithCarry,
+    /// SUB, CMP, CMPS, SCAS: all six by `a - b`.
+    Difference,
+    /// SBB: all six by `a - b - CF`.
+    DifferenceWithBorrow,
+    /// INC: as ADD of `a` and 1, CF kept.
+    Increment,
+    /// DEC: as SUB of `a` and 1, CF kept.
+    Decrement,
+    /// NEG: all six by `0 - a`.
+    Negation,
+    /// AND, OR, XOR, TEST: CF and OF clear, SF, ZF and PF by the result.
+    Logic,
+    /// SHL of `a` by the count `b`.
+    ShiftLeft,
+    /// SHR of `a` by the count `b`.
+    ShiftRight,
+    /// SAR of `a` by the count `b`.
+    ShiftRightSigned,
+    /// ROL by the count `b`.
+    RotateLeft,
+    /// ROR by the count `b`.
+    RotateRight,
+    /// MUL: CF and OF where the upper half of `a * b` is not 0.
+    Product,
+    /// IMUL: CF and OF where the signed `a * b` does not fit.
+    SignedProduct,
+    /// SAHF: CF, PF, AF, ZF and SF are the bits 0, 2, 4, 6 and 7 of `a`.
+    Status,
+}
