@@ -22,30 +22,30 @@ rest false b e = cc
 
 flags_cover : (t s : Truths) (f : Flags) → covers_flags t s ≡ true → FlagsStand s f → FlagsStand t f
 flags_cover t s f e h =
-    let e1 = rest _ _ e in let e2 = rest _ _ e1 in let e3 = rest _ _ e2 in let e4 = rest _ _ e3 in let e5 = rest _ _ e4 in let e6 = rest _ _ e5 in
+    let e1 = first _ _ e in let e2 = first _ _ e1 in let e3 = first _ _ e2 in let e4 = first _ _ e3 in let e5 = first _ _ e4 in
     record {
-      carry = covers_stands t.carry s.carry f.carry (first _ _ e) h.carry;
-      parity = covers_stands t.parity s.parity f.parity (first _ _ e1) h.parity;
-      adjust = covers_stands t.adjust s.adjust f.adjust (first _ _ e2) h.adjust;
-      zero = covers_stands t.zero s.zero f.zero (first _ _ e3) h.zero;
-      sign = covers_stands t.sign s.sign f.sign (first _ _ e4) h.sign;
-      overflow = covers_stands t.overflow s.overflow f.overflow (first _ _ e5) h.overflow;
-      direction = covers_stands t.direction s.direction f.direction e6 h.direction;
+      carry = covers_stands t.carry s.carry f.carry (first _ _ e5) h.carry;
+      parity = covers_stands t.parity s.parity f.parity (rest _ _ e5) h.parity;
+      adjust = covers_stands t.adjust s.adjust f.adjust (rest _ _ e4) h.adjust;
+      zero = covers_stands t.zero s.zero f.zero (rest _ _ e3) h.zero;
+      sign = covers_stands t.sign s.sign f.sign (rest _ _ e2) h.sign;
+      overflow = covers_stands t.overflow s.overflow f.overflow (rest _ _ e1) h.overflow;
+      direction = covers_stands t.direction s.direction f.direction (rest _ _ e) h.direction;
     }
 
 module _ {D : Type 0} (d : Values D) (l : IsLawful d) where
   registers_cover : (t s : Regs D) (p : Places) (m : Registers) → IsValid p → covers_registers d t s ≡ true → RegistersStand d s p m → RegistersStand d t p m
   registers_cover t s p m valid e h =
-      let e1 = rest _ _ e in let e2 = rest _ _ e1 in let e3 = rest _ _ e2 in let e4 = rest _ _ e3 in let e5 = rest _ _ e4 in let e6 = rest _ _ e5 in let e7 = rest _ _ e6 in
+      let e1 = first _ _ e in let e2 = first _ _ e1 in let e3 = first _ _ e2 in let e4 = first _ _ e3 in let e5 = first _ _ e4 in let e6 = first _ _ e5 in
       record {
-        eax = l.leq_stands s.eax t.eax p m.eax valid (first _ _ e) h.eax;
-        ecx = l.leq_stands s.ecx t.ecx p m.ecx valid (first _ _ e1) h.ecx;
-        edx = l.leq_stands s.edx t.edx p m.edx valid (first _ _ e2) h.edx;
-        ebx = l.leq_stands s.ebx t.ebx p m.ebx valid (first _ _ e3) h.ebx;
-        esp = l.leq_stands s.esp t.esp p m.esp valid (first _ _ e4) h.esp;
-        ebp = l.leq_stands s.ebp t.ebp p m.ebp valid (first _ _ e5) h.ebp;
-        esi = l.leq_stands s.esi t.esi p m.esi valid (first _ _ e6) h.esi;
-        edi = l.leq_stands s.edi t.edi p m.edi valid e7 h.edi;
+        eax = l.leq_stands s.eax t.eax p m.eax valid (first _ _ e6) h.eax;
+        ecx = l.leq_stands s.ecx t.ecx p m.ecx valid (rest _ _ e6) h.ecx;
+        edx = l.leq_stands s.edx t.edx p m.edx valid (rest _ _ e5) h.edx;
+        ebx = l.leq_stands s.ebx t.ebx p m.ebx valid (rest _ _ e4) h.ebx;
+        esp = l.leq_stands s.esp t.esp p m.esp valid (rest _ _ e3) h.esp;
+        ebp = l.leq_stands s.ebp t.ebp p m.ebp valid (rest _ _ e2) h.ebp;
+        esi = l.leq_stands s.esi t.esi p m.esi valid (rest _ _ e1) h.esi;
+        edi = l.leq_stands s.edi t.edi p m.edi valid (rest _ _ e) h.edi;
       }
 
   pub covering-is_sound : CoveringIsSound d

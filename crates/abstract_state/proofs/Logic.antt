@@ -1,7 +1,7 @@
 -- Three-valued logic is right about tests.
 use Rattle.std.proofs.Common.{◌≡◌, ℕ, Bool, true, false, not, ◌||◌, ◌&&◌, ◌==◌, ◌/◌, ◌%◌, List, [], ◌∷◌, refl, sym, ◌∙◌, ap, subst, cond}
 use Rattle.std.specs.Prelude.{⊤, slice_get, unwrap_or, zero, suc}
-use Rattle.std.specs.Bool.{xor}
+use Rattle.std.proofs.Math.Bool.{xor}
 use Rattle.x86_syntax.specs.declared.instr.Cond.{Cond}
 use Rattle.memory_map.specs.State.{Flags}
 use Rattle.x86_semantics.specs.Condition.{is_met, tests}
@@ -21,6 +21,7 @@ opposite_stands No b h = ap not h
 opposite_stands Unknown b h = tt
 
 pub negated_stands : (flip : Bool) (t : Truth) (b : Bool) → StandsFor t b → StandsFor (negated_if flip t) (xor flip b)
+unfolding xor
 negated_stands true t true h = opposite_stands t true h
 negated_stands true t false h = opposite_stands t false h
 negated_stands false t true h = h

@@ -1,7 +1,9 @@
 -- The start state describes every start.
 use Rattle.std.proofs.Common.{◌≡◌, ℕ, ◌+◌, ◌≤◌, ◌<◌, ◌^◌, ◌%◌, List, [], ◌∷◌, ◌++◌, length, refl, sym, ◌∙◌, ap, subst, arith}
 use Rattle.std.specs.Prelude.{ℤ, pos, ◌+ℤ◌, ◌≤ℤ◌, All, Contains, unsigned_abs}
-use Rattle.std.specs.Int.{int_rem_euclid}
+use Rattle.std.proofs.lemmas.Int.{ints}
+use Rattle.std.proofs.lemmas.List.Elements.{All-contains, Contains-append_right}
+use Rattle.flow_log.proofs.Members.{Contains-here, Contains-later, Contains-none}
 use Rattle.address_regions.specs.declared.region.Region.{Region}
 use Rattle.address_regions.specs.declared.region.Region.TheVariants.{Stack, Fs, Gs, Block}
 use Rattle.address_regions.specs.Extents.{low_of, high_of}
@@ -25,37 +27,42 @@ places_of image m = record { align = image.align; stack = m.registers.esp; fs = 
 stack_allowed : (r : Range) (b : ℕ) → IsWindow 1048576 4096 b r → IsInUserSpace r → IsAllowed Stack b
 stack_allowed r b w u =
     let low = w.low in let size = w.size in let above = u.above in let below = u.below in
-    record { low = omega arith; high = omega arith }
+    record { low = omega (arith, ints); high = omega (arith, ints) }
 
-last_two : (held : List Range) (f g : Range) → All IsInUserSpace (held ++ f ∷ g ∷ []) → IsInUserSpace f × IsInUserSpace g
-last_two [] f g all = (all.0, all.1.0)
-last_two (h ∷ held) f g all = last_two held f g all.1
+-- the last two of a list are in it
+in_last : (held : List Range) (f g : Range) → Contains (held ++ f ∷ g ∷ []) f × Contains (held ++ f ∷ g ∷ []) g
+in_last held f g = (
+  Contains-append_right held (f ∷ g ∷ []) f (Contains-here f (g ∷ [])),
+  Contains-append_right held (f ∷ g ∷ []) g (Contains-later f g (g ∷ []) (Contains-here g [])),
+)
 
 fs_allowed : (r : Range) (b : ℕ) → IsWindow 4096 4096 b r → IsInUserSpace r → IsAllowed Fs b
 fs_allowed r b w u =
     let low = w.low in let size = w.size in let above = u.above in let below = u.below in
-    record { low = omega arith; high = omega arith }
+    record { low = omega (arith, ints); high = omega (arith, ints) }
 
 gs_allowed : (r : Range) (b : ℕ) → IsWindow 4096 4096 b r → IsInUserSpace r → IsAllowed Gs b
 gs_allowed r b w u =
     let low = w.low in let size = w.size in let above = u.above in let below = u.below in
-    record { low = omega arith; high = omega arith }
+    record { low = omega (arith, ints); high = omega (arith, ints) }
 
 allowed_at : (image : Image) (m : MachineState) → Start image m → (r : Region) (b : ℕ) → HasBase (places_of image m) r b → IsAllowed r b
 allowed_at image m start r b is = at r b is
   where
     map : MapsExactly image m
     map = start.mapped
-    two : IsInUserSpace map.fs_window × IsInUserSpace map.gs_window
-    two = (let P : List Range → Type 0 = λ rs. All IsInUserSpace rs in last_two map.held map.fs_window map.gs_window (subst P map.ranges start.inside.1))
+    inside : (r : Range) → Contains (memory m) r → IsInUserSpace r
+    inside r held = All-contains IsInUserSpace (memory m) r start.inside held
+    among : (r : Range) → Contains (map.held ++ map.fs_window ∷ map.gs_window ∷ []) r → IsInUserSpace r
+    among r held = inside r (Contains-later m.stack r m.ranges (let P : List Range → Type 0 = λ rs. Contains rs r in subst P (sym map.ranges) held))
     at : (r : Region) (b : ℕ) → HasBase (places_of image m) r b → IsAllowed r b
-    at Stack b e = (let P : ℕ → Type 0 = λ x. IsAllowed Stack x in subst P (sym e) (stack_allowed m.stack m.registers.esp map.stack start.inside.0))
-    at Fs b e = (let P : ℕ → Type 0 = λ x. IsAllowed Fs x in subst P (sym e) (fs_allowed map.fs_window m.fs map.fs two.0))
-    at Gs b e = (let P : ℕ → Type 0 = λ x. IsAllowed Gs x in subst P (sym e) (gs_allowed map.gs_window m.gs map.gs two.1))
-    at (Block site size zeroed) b e = absurd e
+    at Stack b e = (let P : ℕ → Type 0 = λ x. IsAllowed Stack x in subst P (sym e) (stack_allowed m.stack m.registers.esp map.stack (inside m.stack (Contains-here m.stack m.ranges))))
+    at Fs b e = (let P : ℕ → Type 0 = λ x. IsAllowed Fs x in subst P (sym e) (fs_allowed map.fs_window m.fs map.fs (among map.fs_window (in_last map.held map.fs_window map.gs_window).0)))
+    at Gs b e = (let P : ℕ → Type 0 = λ x. IsAllowed Gs x in subst P (sym e) (gs_allowed map.gs_window m.gs map.gs (among map.gs_window (in_last map.held map.fs_window map.gs_window).1)))
+    at (Block site size zeroed) b e = absurd (Contains-none (Block site size zeroed, b) e)
 
 base_is : (b : ℕ) → b < 2 ^ 32 → place_at b (pos 0) ≡ b
-base_is b less = omega arith
+base_is b less = omega (arith, ints)
 
 module _ {D : Type 0} (d : Values D) (l : IsLawful d) where
   pub starts-are_described : StartsAreDescribed d

@@ -21,14 +21,14 @@ both false b e f = cc
 
 flags_refl : (t : Truths) → covers_flags t t ≡ true
 flags_refl t =
-    both _ _ (covers_refl t.carry) (both _ _ (covers_refl t.parity) (both _ _ (covers_refl t.adjust) (both _ _ (covers_refl t.zero) (both _ _ (covers_refl t.sign) (both _ _ (covers_refl t.overflow) (covers_refl t.direction))))))
+    both _ _ (both _ _ (both _ _ (both _ _ (both _ _ (both _ _ (covers_refl t.carry) (covers_refl t.parity)) (covers_refl t.adjust)) (covers_refl t.zero)) (covers_refl t.sign)) (covers_refl t.overflow)) (covers_refl t.direction)
 
 module _ {D : Type 0} (d : Values D) (l : IsLawful d) (k : ℕ) (seen : List (Holder × D)) where
   -- what is not kept has a rank above 0
-  ranked : (v : D) (other : Bool) → ((d.rank v == 0) || other) ≡ false → 0 < d.rank v
-  ranked v other e = above (d.rank v) e
+  ranked : (v : D) (a b : Bool) → ((d.rank v == 0) || a || b) ≡ false → 0 < d.rank v
+  ranked v a b e = above (d.rank v) e
     where
-      above : (r : ℕ) → ((r == 0) || other) ≡ false → 0 < r
+      above : (r : ℕ) → ((r == 0) || a || b) ≡ false → 0 < r
       above zero h = cc
       above (suc r) h = omega arith
 
@@ -37,7 +37,7 @@ module _ {D : Type 0} (d : Values D) (l : IsLawful d) (k : ℕ) (seen : List (Ho
       → d.leq u (cond b v (raised d times k seen h (d.raise v))) ≡ true
   raised_turn times h u v true is below more = below
   raised_turn times h u v false is below more =
-      more (d.raise v) (l.leq_trans u v (d.raise v) below (l.raise_leq v (ranked v _ is)))
+      more (d.raise v) (l.leq_trans u v (d.raise v) below (l.raise_leq v (ranked v (list_any (is_pair d h v) seen) (nat_lt (count_by (is_rival d h (d.rank v)) seen) k) is)))
 
   raised_above : (times : ℕ) (h : Holder) (u v : D) → d.leq u v ≡ true → d.leq u (raised d times k seen h v) ≡ true
   unfolding raised
@@ -50,8 +50,8 @@ module _ {D : Type 0} (d : Values D) (l : IsLawful d) (k : ℕ) (seen : List (Ho
 
   registers_above : (g : Regs D) → covers_registers d (widened_registers d k seen g) g ≡ true
   registers_above g =
-      both _ _ (value_above (Register 0) g.eax) (both _ _ (value_above (Register 1) g.ecx) (both _ _ (value_above (Register 2) g.edx) (both _ _ (value_above (Register 3) g.ebx)
-      (both _ _ (value_above (Register 4) g.esp) (both _ _ (value_above (Register 5) g.ebp) (both _ _ (value_above (Register 6) g.esi) (value_above (Register 7) g.edi)))))))
+      both _ _ (both _ _ (both _ _ (both _ _ (both _ _ (both _ _ (both _ _ (value_above (Register 0) g.eax) (value_above (Register 1) g.ecx)) (value_above (Register 2) g.edx)) (value_above (Register 3) g.ebx))
+      (value_above (Register 4) g.esp)) (value_above (Register 5) g.ebp)) (value_above (Register 6) g.esi)) (value_above (Register 7) g.edi)
 
 module _ {D : Type 0} (d : Values D) (l : IsLawful d) where
   pub widening-is_sound : WideningIsSound d

@@ -12,9 +12,9 @@ use std::marker::Model;
 /// the image that it may write, each by its low address and its size.
 #[derive(Drop)]
 pub struct Expansion<D> {
-    pub next: Vec<(u32, State<D>)>,
-    pub causes: Vec<Cause>,
-    pub writes: Vec<(u32, u32)>,
+    next: Vec<(u32, State<D>)>,
+    causes: Vec<Cause>,
+    writes: Vec<(u32, u32)>,
 }
 
 impl<D> Model for Expansion<D> {
@@ -26,6 +26,29 @@ impl<D> Model for Expansion<D> {
     ghost Value = { LogExpansion (State D) Cause (ℕ × ℕ) };
 
     ghost view = { λ x. record { next = x.next.items; causes = x.causes.items; writes = x.writes.items } };
+}
+
+impl<D> Expansion<D> {
+    /// The next pairs, in order.
+    pub fn next(&self) -> &[(u32, State<D>)]
+        ensures { result.now ≡ self.now.next }
+    {
+        self.next.as_slice()
+    }
+
+    /// The causes.
+    pub fn causes(&self) -> &[Cause]
+        ensures { result.now ≡ self.now.causes }
+    {
+        self.causes.as_slice()
+    }
+
+    /// The written ranges.
+    pub fn writes(&self) -> &[(u32, u32)]
+        ensures { result.now ≡ self.now.writes }
+    {
+        self.writes.as_slice()
+    }
 }
 
 impl<D: Domain> Expansion<D> {

@@ -18,3 +18,6 @@ pub use registers::Regs;
 pub use seen::{Holder, Seen};
 pub use state::State;
 pub use truth::Truth;
+
+#[cfg(test)]
+mod tests;

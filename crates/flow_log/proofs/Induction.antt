@@ -3,14 +3,14 @@ use Rattle.std.proofs.Common.{◌≡◌, ℕ, ◌⊎◌, Bool, true, false, not,
 use Rattle.std.specs.Prelude.{Contains, slice_get, filter, filter_map, flat_map, option_map}
 use Rattle.std.proofs.lemmas.List.Elements.{Contains-append_right, Contains-append_left}
 use Rattle.flow_log.specs.Analysis.{Analysis}
-use Rattle.flow_log.specs.Log.{Row, Log, marks_of, marked, mark_of_cause, IsOpen}
+use Rattle.flow_log.specs.Log.{Row, Log, marks_by, marks_of, marked, mark_of_cause, IsOpen}
 use Rattle.flow_log.specs.Run.{Machine, IsRun, Follows}
 use Rattle.flow_log.specs.Sound.{Sound, IsFound, IsRepresented, IsDone, IsClosed, IsKnown}
 use Rattle.flow_log.proofs.Members.{Contains-map, Contains-flat_map, Contains-filter, Contains-filter_map, number_of}
 
 module _ {S E C W : Type 0} (a : Analysis S E C W) (log : Log S E C W) where
   mark_fixed : (row : Row S) (c : C) → Contains log.rows row → Contains (a.fixed log.writes row.location) c → IsOpen a log row.location
-  unfolding marks_of
+  unfolding marks_by
   mark_fixed row c held holds = (
     c,
     Contains-append_left (flat_map (λ r. marked r.location (a.fixed log.writes r.location)) log.rows ++ filter_map (mark_of_cause log.rows) log.causes) _ (row.location, c)
@@ -20,7 +20,7 @@ module _ {S E C W : Type 0} (a : Analysis S E C W) (log : Log S E C W) where
   )
 
   mark_cause : (number : ℕ) (row : Row S) (c : C) → slice_get log.rows number ≡ Some row → Contains log.causes (number, c) → IsOpen a log row.location
-  unfolding marks_of
+  unfolding marks_by
   mark_cause number row c at holds =
       let found : mark_of_cause log.rows (number, c) ≡ Some (row.location, c) = ap (option_map (λ r. (r.location, c))) at in (
         c,
@@ -30,7 +30,7 @@ module _ {S E C W : Type 0} (a : Analysis S E C W) (log : Log S E C W) where
       )
 
   mark_spent : (row : Row S) → Contains log.rows row → row.expanded ≡ false → IsOpen a log row.location
-  unfolding marks_of
+  unfolding marks_by
   mark_spent row held unexpanded = (
     a.spent,
     Contains-append_right (flat_map (λ r. marked r.location (a.fixed log.writes r.location)) log.rows ++ filter_map (mark_of_cause log.rows) log.causes)

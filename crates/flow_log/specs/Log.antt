@@ -81,13 +81,16 @@ marked location causes = map (λ c. (location, c)) causes
 abbrev pub mark_of_cause : {S C : Type 0} → List (Row S) → ℕ × C → Option (ℕ × C)
 mark_of_cause rows noted = option_map (λ row. (row.location, noted.1)) (slice_get rows noted.0)
 
+-- the marks of open locations: what holds of the locations themselves, what expansions gave, and the rows that were not expanded
+unfoldable pub marks_by : {S E C W : Type 0} → (List W → ℕ → List C) → C → Log S E C W → List (ℕ × C)
+marks_by fixed spent log =
+    flat_map (λ row. marked row.location (fixed log.writes row.location)) log.rows
+    ++ filter_map (mark_of_cause log.rows) log.causes
+    ++ map (λ row. (row.location, spent)) (filter (λ row. not row.expanded) log.rows)
+
 module _ {S E C W : Type 0} (a : Analysis S E C W) where
-  -- the marks of open locations: what holds of the locations themselves, what expansions gave, and the rows that were not expanded
-  unfoldable pub marks_of : Log S E C W → List (ℕ × C)
-  marks_of log =
-      flat_map (λ row. marked row.location (a.fixed log.writes row.location)) log.rows
-      ++ filter_map (mark_of_cause log.rows) log.causes
-      ++ map (λ row. (row.location, a.spent)) (filter (λ row. not row.expanded) log.rows)
+  abbrev pub marks_of : Log S E C W → List (ℕ × C)
+  marks_of log = marks_by a.fixed a.spent log
 
   abbrev pub IsOpen : Log S E C W → ℕ → Type 0
   IsOpen log location = (cause : C) × Contains (marks_of log) (location, cause)

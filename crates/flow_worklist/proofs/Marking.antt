@@ -6,7 +6,6 @@ use Rattle.std.proofs.lemmas.List.{take_more}
 use Rattle.std.proofs.lemmas.List.Elements.{filter_map-append}
 use Rattle.std.proofs.lemmas.Option.{slice_get_read}
 use Rattle.flow_log.specs.Log.{Row}
-use Rattle.flow_worklist.specs.Post.{NoState}
 use Rattle.flow_log.specs.declared.cause.Cause.{Cause}
 use Rattle.flow_log.specs.declared.edge.Edge.{Edge}
 use Rattle.automaton_text.specs.declared.automaton.Automaton.{Automaton}
@@ -56,16 +55,16 @@ filtered_more h f xs i d within =
     ∙ ap (λ last. map f (filter_map h (take i xs)) ++ last) (one_mapped h f (get_or xs i d))
 
 -- the mark of a cause at the row that it names
-pub mark_at : (o : Option (Row NoState)) (at : ℕ) (cause : Cause) → Some at ≡ option_map (λ (row : Row NoState). row.location) o
-    → option_to_list (option_map mark_of (option_map (λ (row : Row NoState). (row.location, cause)) o)) ≡ record { at = at; cause = cause } ∷ []
+pub mark_at : {S : Type 0} (o : Option (Row S)) (at : ℕ) (cause : Cause) → Some at ≡ option_map (λ (row : Row S). row.location) o
+    → option_to_list (option_map mark_of (option_map (λ (row : Row S). (row.location, cause)) o)) ≡ record { at = at; cause = cause } ∷ []
 mark_at None at cause e = cc
 mark_at (Some row) at cause e = (let same : at ≡ row.location = cc in ap (λ n. record { at = n; cause = cause } ∷ []) (sym same))
 
-pub no_mark_at : (o : Option (Row NoState)) (cause : Cause) → None ≡ option_map (λ (row : Row NoState). row.location) o
-    → option_to_list (option_map mark_of (option_map (λ (row : Row NoState). (row.location, cause)) o)) ≡ []
+pub no_mark_at : {S : Type 0} (o : Option (Row S)) (cause : Cause) → None ≡ option_map (λ (row : Row S). row.location) o
+    → option_to_list (option_map mark_of (option_map (λ (row : Row S). (row.location, cause)) o)) ≡ []
 no_mark_at None cause e = refl
 no_mark_at (Some row) cause e = cc
 
-pub entry_at : (rows : List (Row NoState)) (row : Row NoState) → 0 < length rows → row ≡ get_or rows 0 row → row.location ≡ entry_of rows
-entry_at rows row some at =
-    sym (ap (λ o. unwrap_or (option_map (λ (r : Row NoState). r.location) o) 0) (slice_get_read rows (length rows) 0 row refl some at))
+pub entry_at : {S : Type 0} (rows : List (Row S)) (row : Row S) → 0 < length rows → row ≡ get_or rows 0 row → row.location ≡ entry_of rows
+entry_at {S} rows row some at =
+    sym (ap (λ o. unwrap_or (option_map (λ (r : Row S). r.location) o) 0) (slice_get_read rows (length rows) 0 row refl some at))

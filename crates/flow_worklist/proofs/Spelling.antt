@@ -21,66 +21,69 @@ use Rattle.flow_log.proofs.Ordering.{ordered_set-is, IsSetOf}
 use Rattle.flow_log.proofs.Orders.{derived_exact, edge_sets}
 use Rattle.automaton_text.specs.Text.{IsSpelled, AreSpelled}
 use Rattle.x86_machine.specs.Machine.{label_by}
-use Rattle.flow_worklist.specs.Post.{NoState, image_bytes, post}
+use Rattle.domain_laws.specs.Laws.{Values}
+use Rattle.abstract_state.specs.declared.state.State.{State}
+use Rattle.abstract_state.specs.State.{start_state}
+use Rattle.flow_worklist.specs.Post.{image_bytes, post}
 use Rattle.flow_worklist.specs.Analysis.{ImageLog, analysis_of, image_log, automaton_of, edge_from}
 use Rattle.x86_semantics.proofs.Meaning.{IsListed, listed_found}
 use Rattle.flow_worklist.proofs.Posting.{post-exit, post-name, post-none, label-instr}
 
-module _ (image : Image) where
+module _ {D : Type 0} (d : Values D) (image : Image) (k : ℕ) where
   -- no pair where the expansion has none
   abbrev Spelled : Edge → Type 0
   Spelled e = IsSpelled e.label
 
-  no_pair : (pairs : List (ℕ × NoState)) (pair : ℕ × NoState) (P : Type 0) → pairs ≡ [] → Contains pairs pair → P
-  no_pair pairs pair P none held = let Q : List (ℕ × NoState) → Type 0 = λ ps. Contains ps pair in absurd (Contains-none pair (subst Q none held))
+  no_pair : (pairs : List (ℕ × State D)) (pair : ℕ × State D) (P : Type 0) → pairs ≡ [] → Contains pairs pair → P
+  no_pair pairs pair P none held = let Q : List (ℕ × State D) → Type 0 = λ ps. Contains ps pair in absurd (Contains-none pair (subst Q none held))
 
-  spelled_found : (a : ℕ) (pair : ℕ × NoState) (name : Option (List ℕ)) (d : Option (Instr × ℕ)) → (a ≡ EXIT_PLACE → ⊥) → name_at image a ≡ name
-      → listed (image_bytes image a) ≡ d → Contains (post image a).next pair → IsSpelled (label_by (name_at image a) (image_bytes image a))
-  spelled_found a pair (Some name) d off named found held = no_pair (post image a).next pair _ (ap (λ x. x.next) (post-name image a name off named)) held
-  spelled_found a pair None None off named found held = no_pair (post image a).next pair _ (ap (λ x. x.next) (post-none image a off named found)) held
-  spelled_found a pair None (Some p) off named found held =
+  spelled_found : (a : ℕ) (s : State D) (pair : ℕ × State D) (name : Option (List ℕ)) (j : Option (Instr × ℕ)) → (a ≡ EXIT_PLACE → ⊥) → name_at image a ≡ name
+      → listed (image_bytes image a) ≡ j → Contains (post d image a s).next pair → IsSpelled (label_by (name_at image a) (image_bytes image a))
+  spelled_found a s pair (Some name) j off named found held = no_pair (post d image a s).next pair _ (ap (λ x. x.next) (post-name d image a s name off named)) held
+  spelled_found a s pair None None off named found held = no_pair (post d image a s).next pair _ (ap (λ x. x.next) (post-none d image a s off named found)) held
+  spelled_found a s pair None (Some p) off named found held =
       let P : Label → Type 0 = IsSpelled in
       let there : Decodes (image_bytes image a) p.0 p.1 = decoded_finds (image_bytes image a) p.0 p.1 (listed_found (image_bytes image a) p.0 p.1 found).decodes in
       subst P (sym (label-instr image a p.0 p.1 named found)) (p.0, there.names)
 
-  spelled_at : (a : ℕ) (pair : ℕ × NoState) (b : Bool) → (a == EXIT_PLACE) ≡ b → Contains (post image a).next pair → Spelled (edge_from image a pair.0)
+  spelled_at : (a : ℕ) (s : State D) (pair : ℕ × State D) (b : Bool) → (a == EXIT_PLACE) ≡ b → Contains (post d image a s).next pair → Spelled (edge_from image a pair.0)
   unfolding edge_from
-  spelled_at a pair true is held = no_pair (post image a).next pair _ (ap (λ x. x.next) (post-exit image a (eqb-true a EXIT_PLACE is))) held
-  spelled_at a pair false is held = spelled_found a pair (name_at image a) (listed (image_bytes image a)) (eqb-false a EXIT_PLACE is) refl refl held
+  spelled_at a s pair true is held = no_pair (post d image a s).next pair _ (ap (λ x. x.next) (post-exit d image a s (eqb-true a EXIT_PLACE is))) held
+  spelled_at a s pair false is held = spelled_found a s pair (name_at image a) (listed (image_bytes image a)) (eqb-false a EXIT_PLACE is) refl refl held
 
-  spelled_pairs : (budget number : ℕ) (row : Row NoState) (pairs : List (ℕ × NoState)) (log : ImageLog)
-      → ((pair : ℕ × NoState) → Contains pairs pair → Spelled (edge_from image row.location pair.0))
-      → All Spelled log.edges → All Spelled (with_pairs (analysis_of image) budget number row pairs log).edges
+  spelled_pairs : (budget number : ℕ) (row : Row (State D)) (pairs : List (ℕ × State D)) (log : ImageLog D)
+      → ((pair : ℕ × State D) → Contains pairs pair → Spelled (edge_from image row.location pair.0))
+      → All Spelled log.edges → All Spelled (with_pairs (analysis_of d image k) budget number row pairs log).edges
   unfolding with_pairs
   spelled_pairs budget number row [] log each all = all
   spelled_pairs budget number row (pair ∷ pairs) log each all =
-      spelled_pairs budget number row pairs (with_pair (analysis_of image) budget number row pair log)
+      spelled_pairs budget number row pairs (with_pair (analysis_of d image k) budget number row pair log)
       (λ other held. each other (Contains-later pair other pairs held))
       (All-push Spelled log.edges (edge_from image row.location pair.0) all (each pair (Contains-here pair pairs)))
 
-  spelled_explored : (budget fuel number : ℕ) (log : ImageLog) → All Spelled log.edges → All Spelled (explored (analysis_of image) budget fuel number log).edges
+  spelled_explored : (budget fuel number : ℕ) (log : ImageLog D) → All Spelled log.edges → All Spelled (explored (analysis_of d image k) budget fuel number log).edges
   unfolding explored with_expansion
   spelled_explored budget zero number log all = all
   spelled_explored budget (suc fuel) number log all =
       elim (slice_get log.rows number)
-      as (λ found. All Spelled (at_row (analysis_of image) budget found log (λ row. explored (analysis_of image) budget fuel (number + 1) (with_expansion (analysis_of image) budget number row log))).edges) [
+      as (λ found. All Spelled (at_row (analysis_of d image k) budget found log (λ row. explored (analysis_of d image k) budget fuel (number + 1) (with_expansion (analysis_of d image k) budget number row log))).edges) [
         | None ↦ all
         | Some row ↦ spelled_explored budget fuel (number + 1) _
-            (spelled_pairs budget number row (post image row.location).next (with_notes (analysis_of image) budget number (post image row.location) log)
-            (λ pair held. spelled_at row.location pair (row.location == EXIT_PLACE) refl held) all)
+            (spelled_pairs budget number row (post d image row.location row.state).next (with_notes (analysis_of d image k) budget number (post d image row.location row.state) log)
+            (λ pair held. spelled_at row.location row.state pair (row.location == EXIT_PLACE) refl held) all)
       ]
 
-  log_spelled : (budget : ℕ) → All Spelled (image_log image budget).edges
+  log_spelled : (budget : ℕ) → All Spelled (image_log d image k budget).edges
   unfolding log_of
-  log_spelled budget = spelled_explored budget budget 0 (first_log (analysis_of image) budget) (All-nil Spelled)
+  log_spelled budget = spelled_explored budget budget 0 (first_log (analysis_of d image k) budget) (All-nil Spelled)
 
-  pub log_has_row : (budget : ℕ) → 0 < length (image_log image budget).rows
+  pub log_has_row : (budget : ℕ) → 0 < length (image_log d image k budget).rows
   unfolding log_of
   log_has_row budget =
-      let first = first_log (analysis_of image) budget in
-      let g : Grows first (explored (analysis_of image) budget budget 0 first) = explored-grows (analysis_of image) budget budget 0 first in
-      slice_get_within (image_log image budget).rows 0 (row_after (analysis_of image) budget [] None image.entry tt)
-      (row_kept first (explored (analysis_of image) budget budget 0 first) 0 (row_after (analysis_of image) budget [] None image.entry tt) g refl)
+      let first = first_log (analysis_of d image k) budget in
+      let g : Grows first (explored (analysis_of d image k) budget budget 0 first) = explored-grows (analysis_of d image k) budget budget 0 first in
+      slice_get_within (image_log d image k budget).rows 0 (row_after (analysis_of d image k) budget [] None image.entry (start_state d))
+      (row_kept first (explored (analysis_of d image k) budget budget 0 first) 0 (row_after (analysis_of d image k) budget [] None image.entry (start_state d)) g refl)
 
   in_log : (xs : List Edge) (e : Edge) → Contains (ordered_set edge_cmp xs) e → Contains xs e
   in_log xs e held =
@@ -89,10 +92,10 @@ module _ (image : Image) where
       let P : List Edge → Type 0 = λ l. Contains l e in
       is.only e (subst P (sym (edge_sets xs)) held)
 
-  pub automaton_spelled : (budget : ℕ) → AreSpelled (automaton_of image (image_log image budget)).edges
+  pub automaton_spelled : (budget : ℕ) → AreSpelled (automaton_of image (image_log d image k budget)).edges
   unfolding automaton_of
   automaton_spelled budget =
-      let log = image_log image budget in
+      let log = image_log d image k budget in
       All-weaker (Contains (ordered_set edge_cmp log.edges)) Spelled
       (λ e held. All-contains Spelled log.edges e (log_spelled budget) (in_log log.edges e held))
       (ordered_set edge_cmp log.edges) (All-contains_itself (ordered_set edge_cmp log.edges))

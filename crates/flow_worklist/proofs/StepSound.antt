@@ -1,21 +1,16 @@
--- The analysis of an image is sound for the machine that runs it.
+-- The analysis of an image is sound for the machine that runs it, over every domain.
 use Rattle.std.proofs.Common.{◌≡◌, ℕ, ◌+◌, Bool, true, false, List, [], ◌∷◌, take, map, cond, Option, Some, None, refl, sym, ◌∙◌, ap, subst, ◌==◌}
-use Rattle.std.specs.Prelude.{Contains, Result, Ok, Err, MatchBool, ⊤}
+use Rattle.std.specs.Prelude.{Contains, Result, Ok, Err, MatchBool}
+use Rattle.address_regions.specs.Places.{Places}
+use Rattle.domain_laws.specs.Laws.{Values, IsLawful}
 use Rattle.memory_map.specs.declared.choice.Choice.{Choice}
 use Rattle.memory_map.specs.declared.fault.FaultKind.{FaultKind}
 use Rattle.memory_map.specs.Range.{code_at}
 use Rattle.memory_map.specs.Image.{Image, EXIT_PLACE, name_at}
 use Rattle.memory_map.specs.State.{MachineState, memory}
 use Rattle.x86_syntax.specs.declared.instr.Instr.{Instr}
-use Rattle.x86_syntax.specs.declared.instr.Mnemonic.{Mnemonic}
-use Rattle.x86_syntax.specs.declared.instr.Mnemonic.TheVariants.{Nop, Jmp, J, Int3, Hlt}
-use Rattle.x86_syntax.specs.declared.instr.Operand.{Operand}
-use Rattle.x86_syntax.specs.declared.instr.Operand.TheVariants.{Offset}
-use Rattle.x86_semantics.specs.Meant.{listed, meant, meant_named}
-use Rattle.x86_semantics.specs.Condition.{is_met}
-use Rattle.x86_semantics.specs.Operands.{at_address, after, branch_target}
-use Rattle.x86_semantics.specs.Operations.{operation_with, operation_of}
-use Rattle.x86_semantics.specs.Does.{does, done, result_of}
+use Rattle.x86_semantics.specs.Meant.{listed, meant}
+use Rattle.x86_semantics.specs.Does.{does}
 use Rattle.x86_semantics.proofs.Meaning.{listed_found}
 use Rattle.x86_machine.specs.StepBy.{StepBy, AtName, AtInstr, stepped, exited, fetched, outcome_of, LONGEST}
 use Rattle.x86_machine.specs.Machine.{machine_of, edge_of, label_at, label_by, instr_bytes}
@@ -23,66 +18,19 @@ use Rattle.flow_log.specs.declared.cause.Cause.{Cause}
 use Rattle.flow_log.specs.declared.cause.Cause.TheVariants as causes
 use Rattle.flow_log.specs.declared.edge.Label.TheVariants.{Code}
 use Rattle.flow_log.specs.Sound.{Sound, IsFound}
-use Rattle.flow_log.proofs.Members.{Contains-here, Contains-later, Contains-map}
-use Rattle.flow_worklist.specs.Post.{NoState, Written, is_touched, meets_touched, image_bytes, targets, targets_named, post, at_instr, at_name, nothing, fixed_causes, fixed_at_name, fixed_at_instr}
+use Rattle.flow_log.proofs.Members.{Contains-here}
+use Rattle.abstract_state.specs.declared.state.State.{State}
+use Rattle.abstract_state.specs.Describes.{Describes, IsDescribed}
+use Rattle.abstract_state.specs.Expanding.{Expanded, nothing}
+use Rattle.abstract_state.specs.Widening.{seen_of, widened_state}
+use Rattle.abstract_state.proofs.Covering.{covering-is_sound}
+use Rattle.abstract_state.proofs.Widening.{widening-is_sound}
+use Rattle.transfer_functions.specs.Laws.{IsFoundIn}
+use Rattle.transfer_functions.specs.Post.{expand_instr}
+use Rattle.transfer_functions.proofs.Soundness.{instructions-are_sound}
+use Rattle.flow_worklist.specs.Post.{Written, is_touched, meets_touched, image_bytes, post, at_instr, at_name, fixed_causes, fixed_at_name, fixed_at_instr}
 use Rattle.flow_worklist.specs.Analysis.{analysis_of, edge_from, Keeps}
 use Rattle.flow_worklist.proofs.Fetching.{run_agrees, listed_agrees, none_passes}
-
--- an instruction leads to one of its targets, and leaves memory as it was
-record IsLanded (m next : MachineState) (tos : List ℕ) : Type 0 where
-  target : Contains tos next.eip
-  stack : next.stack ≡ m.stack
-  ranges : next.ranges ≡ m.ranges
-
-at_target : (m : MachineState) (a : ℕ) (tos : List ℕ) → Contains tos a → IsLanded m (at_address a m) tos
-at_target m a tos held = record { target = held; stack = refl; ranges = refl }
-
-abbrev Done : MachineState → Result MachineState FaultKind
-Done m = Ok m
-
-ok_same : (x y : MachineState) → Done x ≡ Done y → x ≡ y
-ok_same x y e = cc
-
-one_of_two : (b : Bool) (taken past : ℕ) → Contains (taken ∷ past ∷ []) (cond b taken past)
-one_of_two true taken past = Contains-here taken (past ∷ [])
-one_of_two false taken past = Contains-later taken past (past ∷ []) (Contains-here past [])
-
--- how a meant instruction ends
-abbrev Ends : Mnemonic → Instr → List Operand → ℕ → Choice → MachineState → MachineState → Type 0
-Ends name i ops n choice m next = result_of (done (operation_with name i ops) n choice m) ≡ Ok next
-
-int3_stops : (i : Instr) (ops : List Operand) (n : ℕ) (choice : Choice) (m next : MachineState) → Ends Int3 i ops n choice m next → ⊥
-int3_stops i [] n choice m next e = cc
-int3_stops i (a ∷ []) n choice m next e = cc
-int3_stops i (a ∷ b ∷ []) n choice m next e = cc
-int3_stops i (a ∷ b ∷ c ∷ []) n choice m next e = cc
-int3_stops i (a ∷ b ∷ c ∷ d ∷ rest) n choice m next e = cc
-
-hlt_stops : (i : Instr) (ops : List Operand) (n : ℕ) (choice : Choice) (m next : MachineState) → Ends Hlt i ops n choice m next → ⊥
-hlt_stops i [] n choice m next e = cc
-hlt_stops i (a ∷ []) n choice m next e = cc
-hlt_stops i (a ∷ b ∷ []) n choice m next e = cc
-hlt_stops i (a ∷ b ∷ c ∷ []) n choice m next e = cc
-hlt_stops i (a ∷ b ∷ c ∷ d ∷ rest) n choice m next e = cc
-
-landed_named : (name : Mnemonic) (i : Instr) (ops : List Operand) (n : ℕ) (choice : Choice) (m next : MachineState) → meant_named name ops ≡ true → Ends name i ops n choice m next
-    → IsLanded m next (targets_named name ops m.eip n)
-landed_named Nop i [] n choice m next means e =
-    let P : MachineState → Type 0 = λ s. IsLanded m s (targets_named Nop [] m.eip n) in
-    subst P (ok_same _ next e) (at_target m (after n m) (targets_named Nop [] m.eip n) (Contains-here (after n m) []))
-landed_named Jmp i (Offset o ∷ []) n choice m next means e =
-    let P : MachineState → Type 0 = λ s. IsLanded m s (targets_named Jmp (Offset o ∷ []) m.eip n) in
-    subst P (ok_same _ next e) (at_target m (branch_target o n m) (targets_named Jmp (Offset o ∷ []) m.eip n) (Contains-here (branch_target o n m) []))
-landed_named (J c) i (Offset o ∷ []) n choice m next means e =
-    let P : MachineState → Type 0 = λ s. IsLanded m s (targets_named (J c) (Offset o ∷ []) m.eip n) in
-    subst P (ok_same _ next e) (at_target m _ (targets_named (J c) (Offset o ∷ []) m.eip n) (one_of_two (is_met c m.flags) (branch_target o n m) (after n m)))
-landed_named Int3 i ops n choice m next means e = absurd (int3_stops i ops n choice m next e)
-landed_named Hlt i ops n choice m next means e = absurd (hlt_stops i ops n choice m next e)
-landed_named _ i _ n choice m next means e = cc
-
-landed : (i : Instr) (n : ℕ) (choice : Choice) (m next : MachineState) → meant i ≡ true → does i n choice m ≡ Ok next → IsLanded m next (targets i m.eip n)
-unfolding does targets operation_of meant
-landed i n choice m next means e = landed_named i.name i i.ops.items n choice m next means e
 
 -- what it is that a step leads somewhere
 record IsStepped (image : Image) (choice : Choice) (m next : MachineState) : Type 0 where
@@ -149,12 +97,13 @@ module _ (image : Image) (ws : List Written) (m next : MachineState) (keeps : Ke
     instr : Instr
     size : ℕ
     found : listed (image_bytes image m.eip) ≡ Some (instr, size)
+    runs : (m.eip == EXIT_PLACE) ≡ false
+    unnamed : name_at image m.eip ≡ None
     same_label : label_by (name_at image m.eip) (image_bytes image m.eip) ≡ label_at image m
-    next_pairs : (post image m.eip).next ≡ map (λ target. (target, tt)) (targets instr m.eip size)
-    lands : IsLanded m next (targets instr m.eip size)
+    ends : does instr size choice m ≡ Ok next
 
   doing : (choice : Choice) → StepBy image choice m (stepped next) → IsDoing choice
-  unfolding label_at post
+  unfolding label_at
   doing choice step =
       let is : IsStepped image choice m next = step_is image choice m next step in
       let h : HasInstr = has_instr is.runs is.unnamed in
@@ -167,35 +116,50 @@ module _ (image : Image) (ws : List Written) (m next : MachineState) (keeps : Ke
         instr = h.instr;
         size = h.size;
         found = h.found;
+        runs = is.runs;
+        unnamed = is.unnamed;
         same_label = label (image_bytes image m.eip) h.found ∙ ap (λ items. Code (record { items = items })) (sym there.1) ∙ sym (label (fetched m) there.0);
-        next_pairs = ap (λ b. (cond b nothing (at_name (name_at image m.eip) (at_instr (listed (image_bytes image m.eip)) m.eip))).next) is.runs
-            ∙ ap (λ o. (at_name o (at_instr (listed (image_bytes image m.eip)) m.eip)).next) is.unnamed
-            ∙ ap (λ d. (at_instr d m.eip).next) h.found;
-        lands = landed h.instr h.size choice m next (listed_found (image_bytes image m.eip) h.instr h.size h.found).means (done_of (does h.instr h.size choice m) next at);
+        ends = done_of (does h.instr h.size choice m) next at;
       }
 
-  found : (choice : Choice) → IsDoing choice → IsFound (analysis_of image) (machine_of image) (λ s m. ⊤) tt m next
-  unfolding edge_from edge_of
-  found choice d =
-      let Pairs : List (ℕ × NoState) → Type 0 = λ ps. Contains ps (next.eip, tt) in
-      record {
-        state = tt;
-        pair = subst Pairs (sym d.next_pairs) (Contains-map (λ target. (target, tt)) (targets d.instr m.eip d.size) next.eip d.lands.target);
-        describes = tt;
-        edge = ap (λ label. record { from = m.eip; to = next.eip; label = label }) d.same_label;
-      }
+  module _ {D : Type 0} (d : Values D) (l : IsLawful d) (s : State D) (p : Places) (h : Describes d image s p m) where
+    -- the expansion there is that of the instruction
+    expansion_is : (choice : Choice) (g : IsDoing choice) → post d image m.eip s ≡ expand_instr d image.align g.instr m.eip g.size s
+    unfolding post
+    expansion_is choice g =
+        ap (λ b. cond b nothing (at_name d image (name_at image m.eip) (at_instr d image (listed (image_bytes image m.eip)) m.eip s))) g.runs
+        ∙ ap (λ o. at_name d image o (at_instr d image (listed (image_bytes image m.eip)) m.eip s)) g.unnamed
+        ∙ ap (λ i. at_instr d image i m.eip s) g.found
 
-  kept : (choice : Choice) → IsDoing choice → Keeps image ws next
-  kept choice d =
-      record {
-        code = λ a untouched.
-            ap (λ rs. code_at rs a) (ap (λ w. w ∷ next.ranges) d.lands.stack ∙ ap (λ rs. m.stack ∷ rs) d.lands.ranges) ∙ keeps.code a untouched;
-      }
+    -- and stands for what it does
+    found_in : (choice : Choice) (g : IsDoing choice) → IsFoundIn d image (expand_instr d image.align g.instr m.eip g.size s) p m next
+    found_in choice g =
+        instructions-are_sound d l image g.instr g.size choice s p m next (listed_found (image_bytes image m.eip) g.instr g.size g.found).means h g.ends
 
-pub analysis_sound : (image : Image) → Sound (analysis_of image) (machine_of image) (λ s m. ⊤) (Keeps image)
-analysis_sound image = record {
-  covers = λ t s m covers d. tt;
-  widen = λ seen s m d. tt;
-  step = λ ws s m next d keeps none causes steps. found image ws m next keeps none steps.0 (doing image ws m next keeps none steps.0 steps.1);
-  writes = λ ws s m next d keeps none causes written steps. kept image ws m next keeps none steps.0 (doing image ws m next keeps none steps.0 steps.1);
+    pub found : (k : ℕ) (choice : Choice) (g : IsDoing choice) → IsFound (analysis_of d image k) (machine_of image) (IsDescribed d image) s m next
+    unfolding edge_from edge_of
+    found k choice g =
+        let f = found_in choice g in
+        let P : Expanded D → Type 0 = λ x. Contains x.next (next.eip, f.state) in
+        record {
+          state = f.state;
+          pair = subst P (sym (expansion_is choice g)) f.pair;
+          describes = (p, f.describes);
+          edge = ap (λ label. record { from = m.eip; to = next.eip; label = label }) g.same_label;
+        }
+
+    pub kept : (choice : Choice) (g : IsDoing choice) → Keeps image ws next
+    kept choice g =
+        let f = found_in choice g in
+        record {
+          code = λ a untouched.
+              ap (λ rs. code_at rs a) (ap (λ w. w ∷ next.ranges) f.stack ∙ ap (λ rs. m.stack ∷ rs) f.ranges) ∙ keeps.code a untouched;
+        }
+
+pub analysis_sound : {D : Type 0} (d : Values D) (l : IsLawful d) (image : Image) (k : ℕ) → Sound (analysis_of d image k) (machine_of image) (IsDescribed d image) (Keeps image)
+analysis_sound d l image k = record {
+  covers = λ t s m covers h. covering-is_sound d l image t s m covers h;
+  widen = λ seen s m h. covering-is_sound d l image (widened_state d k (seen_of d seen) s) s m (widening-is_sound d l k (seen_of d seen) s) h;
+  step = λ ws s m next h keeps none causes steps. found image ws m next keeps none d l s h.0 h.1 k steps.0 (doing image ws m next keeps none steps.0 steps.1);
+  writes = λ ws s m next h keeps none causes written steps. kept image ws m next keeps none d l s h.0 h.1 steps.0 (doing image ws m next keeps none steps.0 steps.1);
 }

@@ -1,30 +1,21 @@
--- Where a row leads: the next pairs of its location, and the causes that leave it open.
-use Rattle.std.specs.Prelude.{ℕ, ◌+◌, ◌%◌, ◌^◌, Bool, List, [], ◌∷◌, map, Option, None, Some, ◌||◌, ◌==◌, if◌then◌else◌}
+-- Where a row leads: the next pairs of its location and state, and the causes that leave it open.
+use Rattle.std.specs.Prelude.{ℕ, Bool, List, [], ◌∷◌, Option, None, Some, ◌||◌, ◌==◌, if◌then◌else◌}
 use Rattle.std.specs.List.{list_any, range_with_len}
-use Rattle.std.specs.Int.{cast_unsigned, w32}
+use Rattle.domain_laws.specs.Laws.{Values}
 use Rattle.memory_map.specs.Range.{code_at, run_of}
 use Rattle.memory_map.specs.Image.{Image, is_in_span, EXIT_PLACE, name_at}
 use Rattle.x86_syntax.specs.declared.instr.Instr.{Instr}
-use Rattle.x86_syntax.specs.declared.instr.Mnemonic.{Mnemonic}
-use Rattle.x86_syntax.specs.declared.instr.Mnemonic.TheVariants.{Nop, Jmp, J}
-use Rattle.x86_syntax.specs.declared.instr.Operand.{Operand}
 use Rattle.x86_semantics.specs.Meant.{listed}
-use Rattle.x86_semantics.specs.Does.{offset_of}
 use Rattle.x86_machine.specs.StepBy.{LONGEST}
 use Rattle.flow_log.specs.declared.cause.Cause.{Cause}
 use Rattle.flow_log.specs.declared.cause.Cause.TheVariants as causes
-use Rattle.flow_log.specs.Analysis.{Expansion}
-
--- the state of a row, while no instruction of the table reads or writes anything but EIP
-abbrev pub NoState : Type 0
-NoState = Unit {0}
+use Rattle.abstract_state.specs.declared.state.State.{State}
+use Rattle.abstract_state.specs.Expanding.{Expanded, nothing, caused}
+use Rattle.transfer_functions.specs.Post.{expand_instr}
 
 -- a range of the image that a row may write: where it is low, and how many bytes
 abbrev pub Written : Type 0
 Written = ℕ × ℕ
-
-abbrev pub RowExpansion : Type 0
-RowExpansion = Expansion NoState Cause Written
 
 -- the image's executable bytes at an address, one after another, as many as an instruction may have
 unfoldable pub image_bytes : Image → ℕ → List ℕ
@@ -38,40 +29,18 @@ is_touched image writes a = list_any (λ w. is_in_span a (record { low = w.0; si
 unfoldable pub meets_touched : Image → List Written → ℕ → ℕ → Bool
 meets_touched image writes a n = list_any (is_touched image writes) (range_with_len a n)
 
--- the address after an instruction of n bytes
-abbrev pub next_address : ℕ → ℕ → ℕ
-next_address a n = (a + n) % 2 ^ 32
+module _ {D : Type 0} (d : Values D) (image : Image) where
+  abbrev pub at_instr : Option (Instr × ℕ) → ℕ → State D → Expanded D
+  at_instr None a s = caused causes.Bytes
+  at_instr (Some p) a s = expand_instr d image.align p.0 a p.1 s
 
-abbrev pub target_address : List Operand → ℕ → ℕ → ℕ
-target_address ops a n = (a + n + cast_unsigned w32 (offset_of ops)) % 2 ^ 32
+  abbrev pub at_name : Option (List ℕ) → Expanded D → Expanded D
+  at_name None other = other
+  at_name (Some name) other = caused causes.NoStub
 
--- where an instruction may lead: a conditional jump first to its target, then past it; INT3 and HLT nowhere
-abbrev pub targets_named : Mnemonic → List Operand → ℕ → ℕ → List ℕ
-targets_named Nop ops a n = next_address a n ∷ []
-targets_named Jmp ops a n = target_address ops a n ∷ []
-targets_named (J c) ops a n = target_address ops a n ∷ next_address a n ∷ []
-targets_named _ ops a n = []
-
-unfoldable pub targets : Instr → ℕ → ℕ → List ℕ
-targets i a n = targets_named i.name i.ops.items a n
-
-abbrev pub nothing : RowExpansion
-nothing = record { next = []; causes = []; writes = [] }
-
-abbrev pub caused : Cause → RowExpansion
-caused cause = record { next = []; causes = cause ∷ []; writes = [] }
-
-abbrev pub at_instr : Option (Instr × ℕ) → ℕ → RowExpansion
-at_instr None a = caused causes.Bytes
-at_instr (Some p) a = record { next = map (λ target. (target, tt)) (targets p.0 a p.1); causes = []; writes = [] }
-
-abbrev pub at_name : Option (List ℕ) → RowExpansion → RowExpansion
-at_name None other = other
-at_name (Some name) other = caused causes.NoStub
-
--- the expansion of a row at an address
-unfoldable pub post : Image → ℕ → RowExpansion
-post image a = if a == EXIT_PLACE then nothing else at_name (name_at image a) (at_instr (listed (image_bytes image a)) a)
+  -- the expansion of a row at an address
+  unfoldable pub post : ℕ → State D → Expanded D
+  post a s = if a == EXIT_PLACE then nothing else at_name (name_at image a) (at_instr (listed (image_bytes image a)) a s)
 
 abbrev pub fixed_at_instr : Option (Instr × ℕ) → Image → List Written → ℕ → List Cause
 fixed_at_instr None image writes a = causes.Bytes ∷ []

@@ -1,9 +1,9 @@
 ghost use Rattle.std.specs.Prelude.{◌≡◌, ◌<◌, ◌++◌, IfOk, OnOk, length, map, flat_map, filter, filter_map, not, option_map, option_to_list};
 ghost use Rattle.std.specs.Ordering.{nat_cmp};
-ghost use Rattle.flow_log.specs.Log.{marked, mark_of_cause, marks_of};
+ghost use Rattle.flow_log.specs.Log.{marked, mark_of_cause, marks_by};
 ghost use Rattle.flow_log.specs.Ordered.{ordered_set};
 ghost use Rattle.flow_worklist.specs.Post.{fixed_causes};
-ghost use Rattle.flow_worklist.specs.Analysis.{analysis_of, automaton_of, location_of, mark_of};
+ghost use Rattle.flow_worklist.specs.Analysis.{automaton_of, location_of, mark_of};
 
 use crate::fixed::fixed_cause;
 use crate::log::location_at;
@@ -16,7 +16,7 @@ use memory_map::Name;
 use std::alloc::Global;
 
 /// The automaton of a log that was made with this image.
-pub fn automaton_of(alloc: Global, image: &Image, log: &Log) -> Result<Automaton, NoMemory>
+pub fn automaton_of<D>(alloc: Global, image: &Image, log: &Log<D>) -> Result<Automaton, NoMemory>
     requires { 0 < length log.now.rows }
     ensures { IfOk result (λ a. a ≡ automaton_of image.now log.now) }
 {
@@ -32,7 +32,7 @@ pub fn automaton_of(alloc: Global, image: &Image, log: &Log) -> Result<Automaton
     })
 }
 
-fn addresses(alloc: Global, rows: &[Row]) -> Result<Vec<u32>, NoMemory>
+fn addresses<D>(alloc: Global, rows: &[Row<D>]) -> Result<Vec<u32>, NoMemory>
     ensures { IfOk result (λ a. a.items ≡ map (λ row. row.location) rows.now) }
 {
     let mut found = Vec::new(alloc);
@@ -54,7 +54,7 @@ fn location(alloc: Global, image: &Image, at: u32) -> Result<Location, NoMemory>
     }
 }
 
-fn locations(alloc: Global, image: &Image, rows: &[Row]) -> Result<Vec<Location>, NoMemory>
+fn locations<D>(alloc: Global, image: &Image, rows: &[Row<D>]) -> Result<Vec<Location>, NoMemory>
     ensures { IfOk result (λ l. l.items ≡ map (location_of image.now) (ordered_set nat_cmp (map (λ row. row.location) rows.now))) }
 {
     let sorted = sorted_set(addresses(alloc, rows)?);
@@ -82,9 +82,9 @@ fn copies(alloc: Global, edges: &[Edge]) -> Result<Vec<Edge>, NoMemory>
 }
 
 // All marks, in the order of the definition.
-#[tactic(auto, unfolding(flow_log::specs::Log::marks_of))]
-fn marks(alloc: Global, image: &Image, log: &Log) -> Result<Vec<OpenMark>, NoMemory>
-    ensures { IfOk result (λ m. m.items ≡ map mark_of (marks_of (analysis_of image.now) log.now)) }
+#[tactic(auto, unfolding(flow_log::specs::Log::marks_by))]
+fn marks<D>(alloc: Global, image: &Image, log: &Log<D>) -> Result<Vec<OpenMark>, NoMemory>
+    ensures { IfOk result (λ m. m.items ≡ map mark_of (marks_by (fixed_causes image.now) Cause.Budget log.now)) }
 {
     let mut found = Vec::new(alloc);
     push_fixed(&mut found, image, log.writes(), log.rows())?;
@@ -93,11 +93,11 @@ fn marks(alloc: Global, image: &Image, log: &Log) -> Result<Vec<OpenMark>, NoMem
     Ok(found)
 }
 
-fn push_fixed(
+fn push_fixed<D>(
     out: &mut Vec<OpenMark>,
     image: &Image,
     writes: &[(u32, u32)],
-    rows: &[Row],
+    rows: &[Row<D>],
 ) -> Result<(), NoMemory>
     ensures { OnOk result (out.new.items ≡ out.old.items ++ map mark_of (flat_map (λ row. marked row.location (fixed_causes image.now writes.now row.location)) rows.now)) }
 {
@@ -110,9 +110,9 @@ fn push_fixed(
     Ok(())
 }
 
-fn push_cause(
+fn push_cause<D>(
     out: &mut Vec<OpenMark>,
-    rows: &[Row],
+    rows: &[Row<D>],
     number: u32,
     cause: Cause,
 ) -> Result<(), NoMemory>
@@ -127,9 +127,9 @@ fn push_cause(
     }
 }
 
-fn push_causes(
+fn push_causes<D>(
     out: &mut Vec<OpenMark>,
-    rows: &[Row],
+    rows: &[Row<D>],
     causes: &[(u32, Cause)],
 ) -> Result<(), NoMemory>
     ensures { OnOk result (out.new.items ≡ out.old.items ++ map mark_of (filter_map (mark_of_cause rows.now) causes.now)) }
@@ -140,7 +140,7 @@ fn push_causes(
     Ok(())
 }
 
-fn push_spent(out: &mut Vec<OpenMark>, rows: &[Row]) -> Result<(), NoMemory>
+fn push_spent<D>(out: &mut Vec<OpenMark>, rows: &[Row<D>]) -> Result<(), NoMemory>
     ensures { OnOk result (out.new.items ≡ out.old.items ++ map mark_of (map (λ row. (row.location, Cause.Budget)) (filter (λ row. not row.expanded) rows.now))) }
 {
     for row in rows {

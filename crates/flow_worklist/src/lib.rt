@@ -1,5 +1,5 @@
-// The exploration: rows expanded one after another into a log, and the automaton of a log.
-// It stands on image_loader, x86_decoder, x86_machine, automaton_text and flow_log.
+// The exploration over any domain: rows expanded one after another into a log, and the automaton of a log.
+// It stands on transfer_functions, x86_machine, automaton_text and flow_log.
 // Its contract: `explore` gives exactly the log that is defined, and `automaton_of` exactly its automaton.
 #![tactic(auto)]
 
@@ -9,7 +9,8 @@ mod fixed;
 mod listed;
 mod log;
 mod post;
+mod visits;
 
 pub use automaton::automaton_of;
-pub use exploring::explore;
+pub use exploring::{Limits, explore};
 pub use log::{Log, Row};

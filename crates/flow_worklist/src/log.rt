@@ -1,36 +1,36 @@
 ghost use Rattle.std.specs.Prelude.{◌≡◌, option_map, slice_get};
-ghost use Rattle.flow_worklist.specs.Rows.{row_with};
 
+use abstract_state::State;
 use flow_log::{Cause, Edge};
 use std::marker::Model;
 
-/// A row of a log: a location, the row from whose expansion it came, and whether it is expanded itself.
+/// A row of a log: a location with a state, the row from whose expansion it came, and whether it is expanded itself.
 #[derive(Drop)]
-pub struct Row {
+pub struct Row<D> {
     parent: Option<u32>,
     location: u32,
+    state: State<D>,
     expanded: bool,
 }
 
-impl Model for Row {
-    ghost use Rattle.std.specs.Prelude.{ℕ};
+impl<D> Model for Row<D> {
     ghost use Rattle.flow_log.specs.Log.{Row as LogRow};
-    ghost use Rattle.flow_worklist.specs.Post.{NoState};
-    ghost use Rattle.flow_worklist.specs.Rows.{row_with};
+    ghost use Rattle.abstract_state.specs.declared.state.State.{State};
 
-    ghost Value = { LogRow NoState };
+    ghost Value = { LogRow (State D) };
 
-    ghost view = { λ r. row_with r.parent r.location r.expanded };
+    ghost view = { λ r. record { parent = r.parent; location = r.location; state = r.state; expanded = r.expanded } };
 }
 
-impl Row {
+impl<D> Row<D> {
     /// A row with these parts.
-    pub fn new(parent: Option<u32>, location: u32, expanded: bool) -> Row
-        ensures { result ≡ row_with parent location expanded }
+    pub fn new(parent: Option<u32>, location: u32, state: State<D>, expanded: bool) -> Row<D>
+        ensures { result ≡ record { parent = parent; location = location; state = state; expanded = expanded } }
     {
         Row {
             parent,
             location,
+            state,
             expanded,
         }
     }
@@ -49,6 +49,13 @@ impl Row {
         self.location
     }
 
+    /// What is known there.
+    pub fn state(&self) -> &State<D>
+        ensures { result.now ≡ self.now.state }
+    {
+        &self.state
+    }
+
     /// Whether it is expanded.
     pub fn is_expanded(&self) -> bool
         ensures { result ≡ self.now.expanded }
@@ -59,24 +66,24 @@ impl Row {
 
 /// A log, by its rows, its edges, the causes by the number of the row, and the written ranges.
 #[derive(Drop)]
-pub struct Log {
-    pub(crate) rows: Vec<Row>,
+pub struct Log<D> {
+    pub(crate) rows: Vec<Row<D>>,
     pub(crate) edges: Vec<Edge>,
     pub(crate) causes: Vec<(u32, Cause)>,
     pub(crate) writes: Vec<(u32, u32)>,
 }
 
-impl Model for Log {
+impl<D> Model for Log<D> {
     ghost use Rattle.flow_worklist.specs.Analysis.{ImageLog};
 
-    ghost Value = { ImageLog };
+    ghost Value = { ImageLog D };
 
     ghost view = { λ l. record { rows = l.rows.items; edges = l.edges.items; causes = l.causes.items; writes = l.writes.items } };
 }
 
-impl Log {
+impl<D> Log<D> {
     /// The rows, in order.
-    pub fn rows(&self) -> &[Row]
+    pub fn rows(&self) -> &[Row<D>]
         ensures { result.now ≡ self.now.rows }
     {
         self.rows.as_slice()
@@ -105,7 +112,7 @@ impl Log {
 }
 
 // The location of the row of a number.
-pub(crate) fn location_at(rows: &[Row], number: u32) -> Option<u32>
+pub(crate) fn location_at<D>(rows: &[Row<D>], number: u32) -> Option<u32>
     ensures { result ≡ option_map (λ row. row.location) (slice_get rows.now number) }
 {
     match rows.get(number as usize) {

@@ -1,56 +1,71 @@
-ghost use Rattle.std.specs.Prelude.{◌≡◌, ◌≢◌, None, ◌≤◌, ◌+◌, ◌^◌, ◌<◌, length, take};
+ghost use Rattle.std.specs.Prelude.{◌≡◌, ◌≢◌, None, ◌≤◌, IfOk, length, take};
+ghost use Rattle.domain_laws.specs.Made.{values_of};
 ghost use Rattle.memory_map.specs.Image.{EXIT_PLACE, name_at};
-ghost use Rattle.x86_semantics.specs.Does.{offset_of};
-ghost use Rattle.flow_worklist.specs.Post.{next_address, target_address, targets};
 ghost use Rattle.flow_worklist.specs.Posted.{Posted};
 
 use crate::listed::listed;
+use abstract_state::{Expansion, State};
 use arrayvec::ArrayVec;
+use bit_words::NoMemory;
+use domain_laws::Domain;
 use flow_log::Cause;
 use image_loader::Image;
 use memory_map::USER_END;
-use x86_syntax::{Instr, Mnemonic, Operand};
+use std::alloc::Global;
+use transfer_functions::expand_instr;
 
-/// What the expansion of a row gives.
+/// The expansion of a row, and the bytes of the instruction there.
 #[derive(Drop)]
-pub enum Post {
-    /// The exit place.
-    Nothing,
-    /// A cause, and nowhere to go.
-    Open(Cause),
-    /// An instruction, by its bytes, and the addresses where it may lead.
-    Leads {
-        targets: ArrayVec<u32, 2>,
-        bytes: ArrayVec<u8, 15>,
-    },
+pub struct Post<D> {
+    pub expansion: Expansion<D>,
+    pub bytes: ArrayVec<u8, 15>,
 }
 
 /// The expansion of a row at an address.
-pub fn expanded(image: &Image, at: u32) -> Post
-    ensures { Posted image.now at result }
+pub fn expanded<D: Domain>(
+    alloc: Global,
+    image: &Image,
+    at: u32,
+    s: &State<D>,
+) -> Result<Post<D>, NoMemory>
+    ensures { IfOk result (λ post. Posted (values_of D.Domain.own D.eq) image.now at s.now post.expansion post.bytes.items) }
 {
     if at == USER_END {
-        return Post::Nothing;
+        return Ok(Post {
+            expansion: Expansion::nothing(alloc),
+            bytes: ArrayVec::new(),
+        });
     }
     match image.name_at(at) {
-        Some(_) => Post::Open(Cause::NoStub),
-        None => decoded(image, at),
+        Some(_) => Ok(Post {
+            expansion: Expansion::caused(alloc, Cause::NoStub)?,
+            bytes: ArrayVec::new(),
+        }),
+        None => decoded(alloc, image, at, s),
     }
 }
 
 // The expansion of a row at an address that has no name.
-fn decoded(image: &Image, at: u32) -> Post
+fn decoded<D: Domain>(
+    alloc: Global,
+    image: &Image,
+    at: u32,
+    s: &State<D>,
+) -> Result<Post<D>, NoMemory>
     requires runs { at ≢ EXIT_PLACE }
     requires unnamed { name_at image.now at ≡ None }
-    ensures { Posted image.now at result }
+    ensures { IfOk result (λ post. Posted (values_of D.Domain.own D.eq) image.now at s.now post.expansion post.bytes.items) }
 {
     let bytes = image.fetch(at);
     match listed(bytes.as_slice()) {
-        Some((i, len)) => Post::Leads {
-            targets: targets(&i, at, len),
+        Some((i, len)) => Ok(Post {
+            expansion: expand_instr(alloc, image, at, &i, len, s)?,
             bytes: first(bytes, len),
-        },
-        None => Post::Open(Cause::Bytes),
+        }),
+        None => Ok(Post {
+            expansion: Expansion::caused(alloc, Cause::Bytes)?,
+            bytes: ArrayVec::new(),
+        }),
     }
 }
 
@@ -61,42 +76,4 @@ fn first(mut bytes: ArrayVec<u8, 15>, len: u8) -> ArrayVec<u8, 15>
 {
     bytes.truncate(usize::from(len));
     bytes
-}
-
-fn offset(ops: &[Operand]) -> i32
-    ensures { result ≡ offset_of ops.now }
-{
-    match ops {
-        [Operand::Offset(offset), ..] => *offset,
-        _ => 0,
-    }
-}
-
-fn next_address(at: u32, len: u8) -> u32
-    ensures { result ≡ next_address at len }
-{
-    at.wrapping_add(u32::from(len))
-}
-
-fn target_address(ops: &[Operand], at: u32, len: u8) -> u32
-    ensures { result ≡ target_address ops.now at len }
-{
-    next_address(at, len).wrapping_add(offset(ops).cast_unsigned())
-}
-
-#[tactic(auto, unfolding(crate::specs::Post::targets))]
-fn targets(i: &Instr, at: u32, len: u8) -> ArrayVec<u32, 2>
-    ensures { result.items ≡ targets i.now at len }
-{
-    let mut found = ArrayVec::new();
-    match i.name {
-        Mnemonic::Nop => found.push(next_address(at, len)),
-        Mnemonic::Jmp => found.push(target_address(i.ops.as_slice(), at, len)),
-        Mnemonic::J(_) => {
-            found.push(target_address(i.ops.as_slice(), at, len));
-            found.push(next_address(at, len));
-        }
-        _ => {}
-    }
-    found
 }

@@ -57,6 +57,14 @@ impl Image {
         self.segments.fetch(a)
     }
 
+    /// The number of which the stack pointer is a multiple at the start.
+    pub fn align(&self) -> u32
+        ensures { result ≡ self.now.align }
+    {
+        let _ = &self.names;
+        16
+    }
+
     /// The spans whose bytes are anything at the start.
     pub fn unset(&self) -> &[Span]
         ensures { result.now ≡ self.now.unset }

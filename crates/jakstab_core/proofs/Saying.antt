@@ -11,7 +11,12 @@ use Rattle.jakstab_core.specs.declared.status.Status.{Status}
 use Rattle.jakstab_core.specs.declared.status.Status.TheVariants.{Done, VerdictNo, Usage, ReadFault, TooLong, WriteFault, ImageRefused, StubsRefused, Memory, InputRefused}
 use Rattle.jakstab_core.specs.Words.{image_word}
 use Rattle.jakstab_core.specs.Says.{Call, Says, Recovers, IsRead, IsUsageExact, IsFaultless, IsComplete, IMAGE_LIMIT}
+use Rattle.address_regions.specs.Places.{IsAlignment}
 use Rattle.jakstab_core.proofs.Covering.{text_covers}
+
+-- the stack pointer is a multiple of 16 at the start
+form_align : (bytes : List ℕ) → IsAlignment (image_of bytes).align
+form_align bytes = record { log = 4; least = omega arith; greatest = omega arith; power = refl }
 
 -- what `recover` says, with an image read by name, is what the call says
 pub says_recovered : (status : Status) (c : Call) (bytes : List ℕ) → IsRead c bytes
@@ -19,7 +24,7 @@ pub says_recovered : (status : Status) (c : Call) (bytes : List ℕ) → IsRead 
 says_recovered Done c bytes read r = record {
   recovered = record { bytes = bytes; read = read; form = r.form };
   gained = r.gained;
-  covers = text_covers (image_of bytes);
+  covers = text_covers (image_of bytes) (form_align bytes);
 }
 says_recovered (ImageRefused n) c bytes read r = record { bytes = bytes; read = read; fault = r.fault; numbered = r.numbered; refused = r.refused; nothing = r.nothing }
 says_recovered WriteFault c bytes read r = record { recovered = record { bytes = bytes; read = read; form = r.form }; rose = r.rose; part = r.part }

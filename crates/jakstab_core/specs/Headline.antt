@@ -7,7 +7,9 @@ use Rattle.flow_log.specs.declared.cause.Cause.{Cause}
 use Rattle.flow_log.specs.Run.{IsRun}
 use Rattle.x86_machine.specs.Machine.{machine_of, edge_of}
 use Rattle.automaton_text.specs.Text.{newline, edge_line, open_line, text_of}
-use Rattle.flow_worklist.specs.Analysis.{image_log, automaton_of}
+use Rattle.domain_laws.specs.declared.flat.FlatNumbers.{FlatNumbers}
+use Rattle.domain_laws.specs.FlatLaws.{flat}
+use Rattle.flow_worklist.specs.Analysis.{ImageLog, image_log, automaton_of}
 
 -- nothing, or whole lines
 abbrev pub IsLineStart : List ℕ → Type 0
@@ -35,10 +37,17 @@ IsCovered image text m (next ∷ rest) =
 abbrev pub CoversRuns : Image → List ℕ → Type 0
 CoversRuns image text = (m : MachineState) → Start image m → (states : List MachineState) → IsRun (machine_of image) m states → IsCovered image text m states
 
--- how many rows are expanded
+-- how many rows are expanded, and how many values of one rank are seen at a place before others are raised
 abbrev pub BUDGET : ℕ
 BUDGET = 100000
 
--- the text of the automaton of the log of an image
+abbrev pub MOST_SEEN : ℕ
+MOST_SEEN = 32
+
+-- the log of an image over flat numbers
+abbrev pub recovered_log : Image → ImageLog FlatNumbers
+recovered_log image = image_log flat image MOST_SEEN BUDGET
+
+-- the text of its automaton
 unfoldable pub recovered_text : Image → List ℕ
-recovered_text image = text_of (automaton_of image (image_log image BUDGET))
+recovered_text image = text_of (automaton_of image (recovered_log image))

@@ -95,12 +95,43 @@ edge 08048000 F0000000 E9FB7FFBE7 jmp F0000000
 end 2 1 0
 ";
 
+// The `jmp` leads into itself: its second byte begins `inc eax`.
+const OVERLAP: &str = "\
+jakstab-automaton 1
+entry 08048000
+loc 08048000
+loc 08048001
+loc 08048003
+edge 08048000 08048001 EBFF jmp 08048001
+edge 08048001 08048003 FFC0 inc eax
+end 3 2 0
+";
+
+// The comparison is known, so the `je` is taken alone.
+const KNOWN_COMPARE: &str = "\
+jakstab-automaton 1
+entry 08048000
+loc 08048000
+loc 08048005
+loc 08048008
+loc 0804800B
+edge 08048000 08048005 B801000000 mov eax, 00000001
+edge 08048005 08048008 83F801 cmp eax, 00000001
+edge 08048008 0804800B 7401 je 0804800B
+end 4 3 0
+";
+
 #[test]
 fn images_are_recovered_to_their_texts(rt: HostRuntime) -> Result<(), Fail> {
     let alloc = rt.alloc();
     let words = words_of(alloc, &["recover", "a"])?;
-    let rows: [(&[u8], &str); 4] = [
+    let rows: [(&[u8], &str); 6] = [
         (b"\xEB\xFE", SELF_JUMP),
+        (b"\xEB\xFF\xC0\xF4", OVERLAP),
+        (
+            b"\xB8\x01\0\0\0\x83\xF8\x01\x74\x01\x0F\xF4",
+            KNOWN_COMPARE,
+        ),
         (b"\x74\x00\xF4", JE_NEXT),
         (b"\x74\x01\xE9\x90\x90\xF4\x00", JUMP_INTO_NEXT),
         (b"\xE9\xFB\x7F\xFB\xE7", JUMP_TO_EXIT),

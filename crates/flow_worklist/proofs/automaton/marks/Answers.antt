@@ -2,15 +2,15 @@
 use Rattle.std.proofs.Common.{map}
 use Rattle.std.specs.Prelude.{filter, filter_map, flat_map, not}
 use Rattle.flow_log.specs.declared.cause.Cause.TheVariants.{Budget}
-use Rattle.flow_log.specs.Log.{marks_of, marked, mark_of_cause}
+use Rattle.flow_log.specs.Log.{marks_by, marked, mark_of_cause}
 use Rattle.flow_worklist.specs.Post.{fixed_causes}
 use Rattle.flow_worklist.specs.Analysis.{mark_of}
 use Rattle.flow_worklist.proofs.Marking.{pushed_three}
 use Rattle.flow_worklist.proofs.automaton.marks.Goals as goal
 
 pub returns : goal.returns
-unfolding marks_of
-returns c =
+unfolding marks_by
+returns g c =
     let image = c.args.image.now in
     let log = c.args.log.now in
     pushed_three mark_of

@@ -8,7 +8,7 @@ use Rattle.flow_worklist.proofs.Marking.{filtered_more}
 use Rattle.flow_worklist.proofs.automaton.push_causes.Goals as goal
 
 pub loop-noted-preserved : goal.loop-noted-preserved
-loop-noted-preserved c =
+loop-noted-preserved g c =
     let h = mark_of_cause c.args.rows.now in
     let causes = c.args.causes.now in
     let i = c.loop-noted.noted-index in

@@ -5,4 +5,4 @@ use Rattle.flow_worklist.specs.Analysis.{mark_of}
 use Rattle.flow_worklist.proofs.automaton.push_causes.Given as goal
 
 abbrev pub invariant-loop-noted : goal.invariant-loop-noted
-invariant-loop-noted l = l.out.items ≡ l.initial.out.items ++ map mark_of (filter_map (mark_of_cause l.rows) (take l.noted-index l.causes))
+invariant-loop-noted g l = l.out.items ≡ l.initial.out.items ++ map mark_of (filter_map (mark_of_cause l.rows) (take l.noted-index l.causes))

@@ -1,0 +1,4 @@
+pub mod Values
+pub mod Flags
+pub mod Post
+pub mod Laws
