@@ -1,6 +1,6 @@
 -- The code's steps on a log are those of the definition.
 use Rattle.std.proofs.Common.{◌≡◌, ℕ, zero, suc, ◌+◌, List, [], ◌∷◌, ◌++◌, map, Option, Some, None, ◌⊎◌, inl, inr, refl, sym, ◌∙◌, ap, subst}
-use Rattle.std.specs.Prelude.{slice_get, option_map}
+use Rattle.std.specs.Prelude.{slice_get, option_map, unwrap_or}
 use Rattle.domain_laws.specs.Laws.{Values}
 use Rattle.memory_map.specs.Image.{Image, name_at}
 use Rattle.flow_log.specs.declared.edge.Edge.{Edge}
@@ -77,24 +77,29 @@ module _ {D : Type 0} (d : Values D) (image : Image) (k budget : ℕ) where
   unfolding log_of
   explored_all = refl
 
--- a row found by its location and its state
+-- where a row stands, and its state
+abbrev pub stands : {S : Type 0} → Row S → ℕ × S
+stands row = (row.location, row.state)
+
+-- a row found by them
 pub record IsRowOf {S : Type 0} (rows : List (Row S)) (number at : ℕ) (s : S) : Type 0 where
   pub row : Row S
   pub found : slice_get rows number ≡ Some row
   pub located : row.location ≡ at
   pub stated : row.state ≡ s
 
-pub row_found : {S : Type 0} (rows : List (Row S)) (number at : ℕ) (s : S) → Some (at, s) ≡ option_map (λ (row : Row S). (row.location, row.state)) (slice_get rows number)
-    → IsRowOf rows number at s
+pub row_found : {S : Type 0} (rows : List (Row S)) (number at : ℕ) (s : S) → ◌≡◌ {A = Option (ℕ × S)} (Some (at, s)) (option_map stands (slice_get rows number)) → IsRowOf rows number at s
 row_found {S} rows number at s e = found (slice_get rows number) refl e
   where
-    found : (o : Option (Row S)) → slice_get rows number ≡ o → Some (at, s) ≡ option_map (λ (row : Row S). (row.location, row.state)) o → IsRowOf rows number at s
+    found : (o : Option (Row S)) → slice_get rows number ≡ o → ◌≡◌ {A = Option (ℕ × S)} (Some (at, s)) (option_map stands o) → IsRowOf rows number at s
     found None is e' = cc
-    found (Some row) is e' = record { row = row; found = is; located = cc; stated = cc }
+    found (Some row) is e' =
+        let same : (at, s) ≡ stands row = ap (λ o. unwrap_or o (stands row)) e' in
+        record { row = row; found = is; located = sym (ap (λ p. p.0) same); stated = sym (ap (λ p. p.1) same) }
 
-pub none_found : {S : Type 0} (rows : List (Row S)) (number : ℕ) → None ≡ option_map (λ (row : Row S). (row.location, row.state)) (slice_get rows number) → slice_get rows number ≡ None
+pub none_found : {S : Type 0} (rows : List (Row S)) (number : ℕ) → ◌≡◌ {A = Option (ℕ × S)} None (option_map stands (slice_get rows number)) → slice_get rows number ≡ None
 none_found {S} rows number e = found (slice_get rows number) refl e
   where
-    found : (o : Option (Row S)) → slice_get rows number ≡ o → None ≡ option_map (λ (row : Row S). (row.location, row.state)) o → slice_get rows number ≡ None
+    found : (o : Option (Row S)) → slice_get rows number ≡ o → ◌≡◌ {A = Option (ℕ × S)} None (option_map stands o) → slice_get rows number ≡ None
     found None is e' = is
     found (Some row) is e' = cc

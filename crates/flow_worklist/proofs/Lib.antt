@@ -5,3 +5,4 @@ pub mod Marking
 pub mod Starting
 pub mod Spelling
 pub mod StepSound
+pub mod Indexing

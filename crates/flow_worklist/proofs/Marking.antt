@@ -1,17 +1,20 @@
 -- Lists of marks, as they are pushed.
-use Rattle.std.proofs.Common.{◌≡◌, ℕ, ◌+◌, ◌<◌, List, [], ◌∷◌, ◌++◌, length, take, get_or, map, Option, Some, None, refl, sym, ◌∙◌, ap}
-use Rattle.std.specs.Prelude.{filter_map, option_map, option_to_list, unwrap_or}
+use Rattle.std.proofs.Common.{◌≡◌, ℕ, ◌+◌, ◌<◌, Bool, true, false, not, cond, List, [], ◌∷◌, ◌++◌, length, take, get_or, map, Option, Some, None, refl, sym, ◌∙◌, ap}
+use Rattle.std.specs.Prelude.{filter, flat_map, filter_map, option_map, option_to_list, unwrap_or}
 use Rattle.std.specs.List.{cons_option}
 use Rattle.std.proofs.lemmas.List.{take_more}
-use Rattle.std.proofs.lemmas.List.Elements.{filter_map-append}
+use Rattle.std.proofs.lemmas.Grind.{flat_map-append}
+use Rattle.std.proofs.lemmas.List.Elements.{filter-append, filter_map-append}
 use Rattle.std.proofs.lemmas.Option.{slice_get_read}
-use Rattle.flow_log.specs.Log.{Row}
+use Rattle.flow_log.specs.Log.{Row, marked}
 use Rattle.flow_log.specs.declared.cause.Cause.{Cause}
+use Rattle.flow_log.specs.declared.cause.Cause.TheVariants as causes
 use Rattle.flow_log.specs.declared.edge.Edge.{Edge}
 use Rattle.automaton_text.specs.declared.automaton.Automaton.{Automaton}
 use Rattle.automaton_text.specs.declared.automaton.Location.{Location}
 use Rattle.automaton_text.specs.declared.automaton.OpenMark.{OpenMark}
 use Rattle.flow_worklist.specs.Analysis.{entry_of, mark_of}
+use Rattle.flow_worklist.specs.Exploring.{spent_of}
 
 map_append : {X Y : Type 0} (f : X → Y) (xs ys : List X) → map f (xs ++ ys) ≡ map f xs ++ map f ys
 map_append f [] ys = refl
@@ -68,3 +71,34 @@ no_mark_at (Some row) cause e = cc
 pub entry_at : {S : Type 0} (rows : List (Row S)) (row : Row S) → 0 < length rows → row ≡ get_or rows 0 row → row.location ≡ entry_of rows
 entry_at {S} rows row some at =
     sym (ap (λ o. unwrap_or (option_map (λ (r : Row S). r.location) o) 0) (slice_get_read rows (length rows) 0 row refl some at))
+
+-- the fixed causes of one row more
+pub fixed_more : {S : Type 0} (f : ℕ → List Cause) (rows : List (Row S)) (i : ℕ) (row : Row S) → i < length rows → row ≡ get_or rows i row
+    → map mark_of (flat_map (λ r. marked r.location (f r.location)) (take (i + 1) rows))
+    ≡ map mark_of (flat_map (λ r. marked r.location (f r.location)) (take i rows)) ++ map mark_of (marked row.location (f row.location))
+fixed_more f rows i row within is =
+    ap (λ l. map mark_of (flat_map (λ r. marked r.location (f r.location)) l)) (take_more rows i row within)
+    ∙ ap (λ r. map mark_of (flat_map (λ r. marked r.location (f r.location)) (take i rows ++ r ∷ []))) (sym is)
+    ∙ ap (map mark_of) (flat_map-append (λ r. marked r.location (f r.location)) (take i rows) (row ∷ []) ∙ ap (λ l. flat_map (λ r. marked r.location (f r.location)) (take i rows) ++ l) (append_nil (marked row.location (f row.location))))
+    ∙ map_append mark_of (flat_map (λ r. marked r.location (f r.location)) (take i rows)) (marked row.location (f row.location))
+
+spent_one : {S : Type 0} (row : Row S) (b : Bool) → row.expanded ≡ b
+    → map mark_of (map (λ (r : Row S). (r.location, causes.Budget)) (cond (not row.expanded) (row ∷ []) [])) ≡ map mark_of (marked row.location (option_to_list (spent_of row)))
+spent_one row true is =
+    ap (λ b. map mark_of (map (λ r. (r.location, causes.Budget)) (cond (not b) (row ∷ []) []))) is ∙ sym (ap (λ b. map mark_of (marked row.location (option_to_list (cond b None (Some causes.Budget))))) is)
+spent_one row false is =
+    ap (λ b. map mark_of (map (λ r. (r.location, causes.Budget)) (cond (not b) (row ∷ []) []))) is ∙ sym (ap (λ b. map mark_of (marked row.location (option_to_list (cond b None (Some causes.Budget))))) is)
+
+-- the mark of one row more that is not expanded
+pub spent_more : {S : Type 0} (rows : List (Row S)) (i : ℕ) (row : Row S) → i < length rows → row ≡ get_or rows i row
+    → map mark_of (map (λ (r : Row S). (r.location, causes.Budget)) (filter (λ r. not r.expanded) (take (i + 1) rows)))
+    ≡ map mark_of (map (λ (r : Row S). (r.location, causes.Budget)) (filter (λ r. not r.expanded) (take i rows))) ++ map mark_of (marked row.location (option_to_list (spent_of row)))
+spent_more {S} rows i row within is =
+    let f : Row S → ℕ × Cause = λ r. (r.location, causes.Budget) in
+    let p : Row S → Bool = λ r. not r.expanded in
+    ap (λ l. map mark_of (map f (filter p l))) (take_more rows i row within)
+    ∙ ap (λ r. map mark_of (map f (filter p (take i rows ++ r ∷ [])))) (sym is)
+    ∙ ap (λ l. map mark_of (map f l)) (filter-append p (take i rows) (row ∷ []))
+    ∙ ap (map mark_of) (map_append f (filter p (take i rows)) (filter p (row ∷ [])))
+    ∙ map_append mark_of (map f (filter p (take i rows))) (map f (filter p (row ∷ [])))
+    ∙ ap (λ l. map mark_of (map f (filter p (take i rows))) ++ l) (spent_one row row.expanded refl)

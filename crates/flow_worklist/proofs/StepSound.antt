@@ -93,14 +93,14 @@ module _ (image : Image) (ws : List Written) (m next : MachineState) (keeps : Ke
       (λ i less. keeps.code (m.eip + i) (none_passes (is_touched image ws) m.eip h.size i h.untouched less)) within)
 
   -- a step that leads somewhere does the image's instruction
-  record IsDoing (choice : Choice) : Type 0 where
-    instr : Instr
-    size : ℕ
-    found : listed (image_bytes image m.eip) ≡ Some (instr, size)
-    runs : (m.eip == EXIT_PLACE) ≡ false
-    unnamed : name_at image m.eip ≡ None
-    same_label : label_by (name_at image m.eip) (image_bytes image m.eip) ≡ label_at image m
-    ends : does instr size choice m ≡ Ok next
+  pub record IsDoing (choice : Choice) : Type 0 where
+    pub instr : Instr
+    pub size : ℕ
+    pub found : listed (image_bytes image m.eip) ≡ Some (instr, size)
+    pub runs : (m.eip == EXIT_PLACE) ≡ false
+    pub unnamed : name_at image m.eip ≡ None
+    pub same_label : label_by (name_at image m.eip) (image_bytes image m.eip) ≡ label_at image m
+    pub ends : does instr size choice m ≡ Ok next
 
   doing : (choice : Choice) → StepBy image choice m (stepped next) → IsDoing choice
   unfolding label_at

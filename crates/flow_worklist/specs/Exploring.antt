@@ -4,6 +4,7 @@ use Rattle.std.specs.List.{list_any}
 use Rattle.std.specs.HashMap.{get}
 use Rattle.domain_laws.specs.Laws.{Values}
 use Rattle.flow_log.specs.declared.cause.Cause.{Cause}
+use Rattle.flow_log.specs.declared.cause.Cause.TheVariants as causes
 use Rattle.flow_log.specs.declared.edge.Edge.{Edge}
 use Rattle.flow_log.specs.declared.edge.Label.TheVariants.{Code}
 use Rattle.flow_log.specs.Log.{Row, states_at}
@@ -26,6 +27,10 @@ row_with parent location state budget rows = record { parent = parent; location 
 abbrev pub code_edge : ℕ → List ℕ → ℕ → Edge
 code_edge from bytes to = record { from = from; to = to; label = Code (record { items = bytes }) }
 
+-- the cause of a row that is not expanded
+abbrev pub spent_of : {S : Type 0} → Row S → Option Cause
+spent_of row = if row.expanded then None else Some causes.Budget
+
 -- causes noted, and ranges gathered
 abbrev pub notes_added : {D : Type 0} → ℕ → List Cause → List Written → ImageLog D → ImageLog D
 notes_added number causes writes log =
@@ -33,9 +38,9 @@ notes_added number causes writes log =
 
 module _ {D : Type 0} (d : Values D) where
   -- what the code keeps of a location tells the states of its rows, and what they hold
-  pub record IsOf (v : Visits D) (states : List (State D)) : Type 0 where
-    pub states : v.states.items ≡ states
-    pub seen : v.seen ≡ seen_of d states
+  pub record IsOf (v : Visits D) (rows : List (State D)) : Type 0 where
+    pub states : v.states.items ≡ rows
+    pub seen : v.seen ≡ seen_of d rows
 
   abbrev pub IsKept : Option (Visits D) → List (State D) → Type 0
   IsKept None states = states ≡ []

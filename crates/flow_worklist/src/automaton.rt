@@ -4,6 +4,7 @@ ghost use Rattle.flow_log.specs.Log.{marked, mark_of_cause, marks_by};
 ghost use Rattle.flow_log.specs.Ordered.{ordered_set};
 ghost use Rattle.flow_worklist.specs.Post.{fixed_causes};
 ghost use Rattle.flow_worklist.specs.Analysis.{automaton_of, location_of, mark_of};
+ghost use Rattle.flow_worklist.specs.Exploring.{spent_of};
 
 use crate::fixed::fixed_cause;
 use crate::log::location_at;
@@ -93,6 +94,16 @@ fn marks<D>(alloc: Global, image: &Image, log: &Log<D>) -> Result<Vec<OpenMark>,
     Ok(found)
 }
 
+// A mark at an address, where there is a cause.
+fn push_mark(out: &mut Vec<OpenMark>, at: u32, cause: Option<Cause>) -> Result<(), NoMemory>
+    ensures { OnOk result (out.new.items ≡ out.old.items ++ map mark_of (marked at (option_to_list cause))) }
+{
+    if let Some(cause) = cause {
+        out.push(OpenMark { at, cause })?;
+    }
+    Ok(())
+}
+
 fn push_fixed<D>(
     out: &mut Vec<OpenMark>,
     image: &Image,
@@ -103,9 +114,7 @@ fn push_fixed<D>(
 {
     for row in rows {
         let at = row.location();
-        if let Some(cause) = fixed_cause(image, writes, at) {
-            out.push(OpenMark { at, cause })?;
-        }
+        push_mark(out, at, fixed_cause(image, writes, at))?;
     }
     Ok(())
 }
@@ -140,15 +149,22 @@ fn push_causes<D>(
     Ok(())
 }
 
+// The cause of a row that is not expanded.
+fn spent_cause<D>(row: &Row<D>) -> Option<Cause>
+    ensures { result ≡ spent_of row.now }
+{
+    if row.is_expanded() {
+        None
+    } else {
+        Some(Cause::Budget)
+    }
+}
+
 fn push_spent<D>(out: &mut Vec<OpenMark>, rows: &[Row<D>]) -> Result<(), NoMemory>
     ensures { OnOk result (out.new.items ≡ out.old.items ++ map mark_of (map (λ row. (row.location, Cause.Budget)) (filter (λ row. not row.expanded) rows.now))) }
 {
     for row in rows {
-        if !row.is_expanded() {
-            let at = row.location();
-            let cause = Cause::Budget;
-            out.push(OpenMark { at, cause })?;
-        }
+        push_mark(out, row.location(), spent_cause(row))?;
     }
     Ok(())
 }

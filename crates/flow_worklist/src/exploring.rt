@@ -1,10 +1,10 @@
-ghost use Rattle.std.specs.Prelude.{ℕ, ◌≡◌, ◌≤◌, ◌<◌, ◌∷◌, ◌++◌, IfOk, OnOk, false, map, nat_eq, length, option_map, slice_get};
+ghost use Rattle.std.specs.Prelude.{ℕ, ◌≡◌, ◌≤◌, ◌<◌, [], ◌∷◌, ◌++◌, Some, IfOk, OnOk, false, map, nat_eq, length, option_map, slice_get};
 ghost use Rattle.std.specs.HashMap.{get};
 ghost use Rattle.domain_laws.specs.Made.{values_of};
 ghost use Rattle.flow_log.specs.Log.{Row as LogRow, first_log, states_at, with_expansion};
 ghost use Rattle.abstract_state.specs.declared.state.State.{State as RowState};
 ghost use Rattle.flow_worklist.specs.Analysis.{analysis_of, image_log};
-ghost use Rattle.flow_worklist.specs.Exploring.{IsIndexed, IsIndexedBut, IsOf, log_in, notes_added, pair_added, pairs_added, rows_added};
+ghost use Rattle.flow_worklist.specs.Exploring.{IsIndexed, IsIndexedBut, IsOf, log_in, notes_added, pair_added, pairs_added, row_with, rows_added};
 
 use crate::post::{Post, expanded};
 use crate::visits::Visits;
@@ -88,13 +88,51 @@ impl<D: Domain> Exploration<D> {
         }
     }
 
-    // A row at a location of which this is kept, unless one there covers it; and what is kept put back.
-    fn add_row(
+    // What is kept of a location put back.
+    fn put(&mut self, at: u32, visits: Visits<D>) -> Result<(), NoMemory>
+        requires taken { IsOf (values_of D.Domain.own D.eq) visits (states_at at self.old.rows.items) }
+        requires others { IsIndexedBut (values_of D.Domain.own D.eq) at self.old }
+        ensures indexed { OnOk result (IsIndexed (values_of D.Domain.own D.eq) self.new) }
+        ensures rows { self.new.rows ≡ self.old.rows }
+        ensures edges { self.new.edges ≡ self.old.edges }
+        ensures causes { self.new.causes ≡ self.old.causes }
+        ensures writes { self.new.writes ≡ self.old.writes }
+    {
+        self.visits.insert(at, visits)?;
+        Ok(())
+    }
+
+    // A row at a location of which this is kept.
+    fn push_row(
         &mut self,
         number: u32,
         at: u32,
         state: State<D>,
         mut visits: Visits<D>,
+        budget: u32,
+    ) -> Result<(), NoMemory>
+        requires taken { IsOf (values_of D.Domain.own D.eq) visits (states_at at self.old.rows.items) }
+        requires others { IsIndexedBut (values_of D.Domain.own D.eq) at self.old }
+        ensures rows { OnOk result (self.new.rows.items ≡ self.old.rows.items ++ row_with (Some number) at state budget self.old.rows.items ∷ []) }
+        ensures indexed { OnOk result (IsIndexed (values_of D.Domain.own D.eq) self.new) }
+        ensures edges { self.new.edges ≡ self.old.edges }
+        ensures causes { self.new.causes ≡ self.old.causes }
+        ensures writes { self.new.writes ≡ self.old.writes }
+    {
+        let expanded = self.rows.len() < budget as usize;
+        let row = Row::new(Some(number), at, state.copy(), expanded);
+        self.rows.push(row)?;
+        visits.add(state)?;
+        self.put(at, visits)
+    }
+
+    // A row at a location of which this is kept, unless one there covers it.
+    fn add_row(
+        &mut self,
+        number: u32,
+        at: u32,
+        state: State<D>,
+        visits: Visits<D>,
         budget: u32,
     ) -> Result<(), NoMemory>
         requires taken { IsOf (values_of D.Domain.own D.eq) visits (states_at at self.old.rows.items) }
@@ -105,14 +143,10 @@ impl<D: Domain> Exploration<D> {
         ensures causes { self.new.causes ≡ self.old.causes }
         ensures writes { self.new.writes ≡ self.old.writes }
     {
-        if !visits.covers(&state) {
-            let expanded = self.rows.len() < budget as usize;
-            self.rows
-                .push(Row::new(Some(number), at, state.copy(), expanded))?;
-            visits.add(state)?;
+        if visits.covers(&state) {
+            return self.put(at, visits);
         }
-        self.visits.insert(at, visits)?;
-        Ok(())
+        self.push_row(number, at, state, visits, budget)
     }
 
     // A next pair of a row.

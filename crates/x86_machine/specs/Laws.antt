@@ -5,7 +5,7 @@ use Rattle.memory_map.specs.Image.{Image, EXIT_PLACE, name_at}
 use Rattle.memory_map.specs.State.{MachineState}
 use Rattle.x86_syntax.specs.declared.instr.Instr.{Instr}
 use Rattle.x86_syntax.specs.declared.instr.Mnemonic.{Mnemonic}
-use Rattle.x86_syntax.specs.declared.instr.Mnemonic.TheVariants.{Nop, Jmp, J}
+use Rattle.x86_syntax.specs.declared.instr.Mnemonic.TheVariants.{Nop, Jmp, J, Mov, Add, Sub, Cmp, Inc, Dec}
 use Rattle.x86_semantics.specs.Meant.{listed}
 use Rattle.x86_machine.specs.StepBy.{StepBy, stepped, fetched}
 
@@ -14,6 +14,12 @@ abbrev pub GoesOn : Mnemonic → Type 0
 GoesOn Nop = ⊤
 GoesOn Jmp = ⊤
 GoesOn (J c) = ⊤
+GoesOn Mov = ⊤
+GoesOn Add = ⊤
+GoesOn Sub = ⊤
+GoesOn Cmp = ⊤
+GoesOn Inc = ⊤
+GoesOn Dec = ⊤
 GoesOn _ = ⊥
 
 -- at such an instruction every choice has a next state
