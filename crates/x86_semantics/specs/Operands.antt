@@ -2,6 +2,7 @@
 use Rattle.std.specs.Prelude.{ℕ, ◌+◌, ◌*◌, ◌%◌, ◌^◌, Option, None, Some, ℤ}
 use Rattle.std.specs.Int.{cast_unsigned, w32}
 use Rattle.bit_words.specs.declared.width.Width.{Width}
+use Rattle.bit_words.specs.Width.{cut}
 use Rattle.memory_map.specs.declared.fault.FaultKind.{FaultKind}
 use Rattle.memory_map.specs.declared.fault.FaultKind.TheVariants as kinds
 use Rattle.memory_map.specs.State.{MachineState, Flags}
@@ -76,7 +77,7 @@ storing m w a v k = on_stored m (stored w a v m) k
 -- an operand's value
 abbrev pub reading : MachineState → Operand → (ℕ → Ended) → Ended
 reading m (Register w r) k = k (part w r m)
-reading m (Number w n) k = k n
+reading m (Number w n) k = k (cut w n)
 reading m (Memory w a) k = loading m w (address_of a m) k
 reading m (Offset o) k = k (cast_unsigned w32 o)
 

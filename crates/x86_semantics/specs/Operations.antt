@@ -2,6 +2,7 @@
 use Rattle.std.specs.Prelude.{ℕ, true, false, List, [], ◌∷◌}
 use Rattle.bit_words.specs.declared.width.Width.{Width}
 use Rattle.bit_words.specs.declared.width.Width.TheVariants.{B8, B16, B32}
+use Rattle.bit_words.specs.Width.{cut}
 use Rattle.bit_words.specs.declared.op.Op.{Op}
 use Rattle.bit_words.specs.declared.op.Op.TheVariants as ops
 use Rattle.memory_map.specs.declared.fault.FaultKind.TheVariants.{Halt, Trap, Undefined}
@@ -79,7 +80,7 @@ count_jump_of (Offset o) = does.JumpIfNoCount o
 count_jump_of _ = unlisted
 
 abbrev pub return_of : Operand → Operation
-return_of (Number w n) = does.Return n
+return_of (Number w n) = does.Return (cut w n)
 return_of _ = unlisted
 
 abbrev pub of_one : Mnemonic → Width → Operand → Operation

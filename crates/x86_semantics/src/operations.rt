@@ -158,7 +158,9 @@ fn return_of(extra: Operand) -> Operation
     ensures { result ≡ return_of extra }
 {
     match extra {
-        Operand::Number(_, extra) => Operation::Return { extra },
+        Operand::Number(w, extra) => Operation::Return {
+            extra: w.cut(extra),
+        },
         _ => unlisted(),
     }
 }
