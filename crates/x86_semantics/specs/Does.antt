@@ -58,6 +58,11 @@ abbrev pub result_of : Ended → Result MachineState FaultKind
 result_of (Next n) = Ok n
 result_of (Faulted kind m) = Err kind
 
+-- an outcome with the state: a fault leaves m
+abbrev pub ended : MachineState → Result MachineState FaultKind → Ended
+ended m (Ok n) = Next n
+ended m (Err kind) = Faulted kind m
+
 -- the instruction i of n bytes done on m: free flags and free results are the choice's
 unfoldable pub does : Instr → ℕ → Choice → MachineState → Result MachineState FaultKind
 does i n choice m = result_of (done (operation_of i) n choice m)
