@@ -13,5 +13,7 @@ mod products;
 mod shifts;
 mod stack;
 mod strings;
+#[cfg(test)]
+mod tests;
 
 pub use lifting::lift;
