@@ -2,7 +2,6 @@
 use Rattle.std.specs.Prelude.{ℕ, ◌+◌, ◌*◌, true, false, not}
 use Rattle.bit_words.specs.declared.width.Width.TheVariants.{B8}
 use Rattle.bit_words.specs.Operators.{one_if}
-use Rattle.memory_map.specs.declared.choice.Choice.{Choice}
 use Rattle.memory_map.specs.State.{MachineState, Flags}
 use Rattle.x86_semantics.specs.declared.flag_rule.FlagRule.TheVariants.{Status}
 use Rattle.x86_semantics.specs.declared.operation.FlagChange.{FlagChange}

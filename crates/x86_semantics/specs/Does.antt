@@ -34,7 +34,7 @@ done (Lea to address) n choice m = lea to address (after n m) m
 done (Exchange place w r) n choice m = exchange place w r (after n m) m
 done (Shift op rule w to count) n choice m = shift op rule w to count (after n m) choice m
 done (MultiplyLong high rule w from) n choice m = multiply_long high rule w from (after n m) choice m
-done (Multiply w to left right) n choice m = multiply w to left right (after n m) choice m
+done (Multiply w r left right) n choice m = multiply w r left right (after n m) choice m
 done (Divide signed w by) n choice m = divide signed w by (after n m) choice m
 done (Jump c offset) n choice m = jump c offset n m
 done (Goto target) n choice m = goto target n m
@@ -57,6 +57,11 @@ done (Stop kind) n choice m = Faulted kind m
 abbrev pub result_of : Ended → Result MachineState FaultKind
 result_of (Next n) = Ok n
 result_of (Faulted kind m) = Err kind
+
+-- an outcome with the state: a fault leaves m
+abbrev pub ended : MachineState → Result MachineState FaultKind → Ended
+ended m (Ok n) = Next n
+ended m (Err kind) = Faulted kind m
 
 -- the instruction i of n bytes done on m: free flags and free results are the choice's
 unfoldable pub does : Instr → ℕ → Choice → MachineState → Result MachineState FaultKind

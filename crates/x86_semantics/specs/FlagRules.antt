@@ -101,17 +101,21 @@ free_of _ = no_flags
 abbrev pub chosen : Choice → FlagSet
 chosen choice = record { 0 = choice.flags }
 
--- the flags of a set, but DF, taken from the choice
-abbrev pub freed : FlagSet → Choice → Flags → Flags
-freed which choice f = record {
-  carry = if carry_of which then carry_of (chosen choice) else f.carry;
-  parity = if parity_of which then parity_of (chosen choice) else f.parity;
-  adjust = if adjust_of which then adjust_of (chosen choice) else f.adjust;
-  zero = if zero_of which then zero_of (chosen choice) else f.zero;
-  sign = if sign_of which then sign_of (chosen choice) else f.sign;
-  overflow = if overflow_of which then overflow_of (chosen choice) else f.overflow;
+-- the flags of a set, but DF, taken from others
+abbrev pub freed_by : FlagSet → FlagSet → Flags → Flags
+freed_by which g f = record {
+  carry = if carry_of which then carry_of g else f.carry;
+  parity = if parity_of which then parity_of g else f.parity;
+  adjust = if adjust_of which then adjust_of g else f.adjust;
+  zero = if zero_of which then zero_of g else f.zero;
+  sign = if sign_of which then sign_of g else f.sign;
+  overflow = if overflow_of which then overflow_of g else f.overflow;
   direction = f.direction;
 }
+
+-- the flags of a set, but DF, taken from the choice
+abbrev pub freed : FlagSet → Choice → Flags → Flags
+freed which choice f = freed_by which (chosen choice) f
 
 -- the flags after an instruction of a rule
 abbrev pub flags_after : FlagRule → Width → ℕ → ℕ → ℕ → Choice → Flags → Flags

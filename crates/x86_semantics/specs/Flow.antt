@@ -39,11 +39,14 @@ goes_on Counted f = true
 goes_on Equal f = f.zero
 goes_on NotEqual f = not f.zero
 
--- ECX is counted down, and the loop goes on where it is not 0 and ZF is as it should
+-- ECX one less, with the count and the state then
+abbrev pub counting_down : MachineState → (ℕ → MachineState → Ended) → Ended
+counting_down m k = k (below (register ECX m) 1) (with_register ECX (below (register ECX m) 1) m)
+
+-- the loop goes on where ECX has not come to 0 and ZF is as it should
 abbrev pub loop : Looping → ℤ → ℕ → MachineState → Ended
 loop kind offset n m =
-    let count = below (register ECX m) 1 in
-    Next (at_address (if goes_on kind m.flags && not (count == 0) then branch_target offset n m else after n m) (with_register ECX count m))
+    counting_down m (λ count p. Next (at_address (if goes_on kind p.flags && not (count == 0) then branch_target offset n m else after n m) p))
 
 abbrev pub jump_if_no_count : ℤ → ℕ → MachineState → Ended
 jump_if_no_count offset n m = Next (at_address (if register ECX m == 0 then branch_target offset n m else after n m) m)

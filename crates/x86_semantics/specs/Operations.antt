@@ -2,6 +2,7 @@
 use Rattle.std.specs.Prelude.{ℕ, true, false, List, [], ◌∷◌}
 use Rattle.bit_words.specs.declared.width.Width.{Width}
 use Rattle.bit_words.specs.declared.width.Width.TheVariants.{B8, B16, B32}
+use Rattle.bit_words.specs.Width.{cut}
 use Rattle.bit_words.specs.declared.op.Op.{Op}
 use Rattle.bit_words.specs.declared.op.Op.TheVariants as ops
 use Rattle.memory_map.specs.declared.fault.FaultKind.TheVariants.{Halt, Trap, Undefined}
@@ -79,7 +80,7 @@ count_jump_of (Offset o) = does.JumpIfNoCount o
 count_jump_of _ = unlisted
 
 abbrev pub return_of : Operand → Operation
-return_of (Number w n) = does.Return n
+return_of (Number w n) = does.Return (cut w n)
 return_of _ = unlisted
 
 abbrev pub of_one : Mnemonic → Width → Operand → Operation
@@ -122,6 +123,10 @@ abbrev pub exchange_of : Operand → Operand → Operation
 exchange_of place (Register w r) = does.Exchange place w r
 exchange_of place _ = unlisted
 
+abbrev pub product_of : Operand → Operand → Operand → Operation
+product_of (Register w r) left right = does.Multiply w r left right
+product_of to left right = unlisted
+
 abbrev pub of_two : Mnemonic → Width → Operand → Operand → Operation
 of_two names.Add w a b = does.Combine ops.Add rules.Sum w a b
 of_two names.Sub w a b = does.Combine ops.Sub rules.Difference w a b
@@ -142,14 +147,14 @@ of_two names.Shr w a b = does.Shift ops.Shr rules.ShiftRight w a b
 of_two names.Sar w a b = does.Shift ops.Sar rules.ShiftRightSigned w a b
 of_two names.Rol w a b = does.Shift ops.Rol rules.RotateLeft w a b
 of_two names.Ror w a b = does.Shift ops.Ror rules.RotateRight w a b
-of_two names.Imul w a b = does.Multiply w a a b
+of_two names.Imul w a b = product_of a a b
 of_two (names.Cmov c) w a b = does.MoveIf c a b
 of_two _ w a b = unlisted
 
 -- ---- three operands
 
 abbrev pub of_three : Mnemonic → Width → Operand → Operand → Operand → Operation
-of_three names.Imul w a b c = does.Multiply w a b c
+of_three names.Imul w a b c = product_of a b c
 of_three _ w a b c = unlisted
 
 -- by the operands

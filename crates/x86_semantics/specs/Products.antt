@@ -1,5 +1,5 @@
 -- Products and quotients (manual, volume 2: DIV, IDIV, IMUL, MUL).
-use Rattle.std.specs.Prelude.{ℕ, ◌+◌, ◌*◌, ◌/◌, ◌%◌, ◌^◌, Bool, true, false, nat_lt, ◌==◌, if◌then◌else◌, Option, None, Some, ℤ, pos, ◌+ℤ◌, ◌*ℤ◌, int_div, int_rem}
+use Rattle.std.specs.Prelude.{ℕ, ◌+◌, ◌*◌, ◌/◌, ◌%◌, ◌^◌, Bool, nat_lt, ◌==◌, if◌then◌else◌, Option, None, Some, ℤ, pos, ◌+ℤ◌, ◌*ℤ◌, int_div, int_rem}
 use Rattle.bit_words.specs.declared.width.Width.{Width}
 use Rattle.bit_words.specs.declared.op.Op.{Op}
 use Rattle.bit_words.specs.declared.op.Op.TheVariants.{Mul}
@@ -13,7 +13,7 @@ use Rattle.x86_semantics.specs.declared.flag_rule.FlagRule.{FlagRule}
 use Rattle.x86_semantics.specs.declared.flag_rule.FlagRule.TheVariants.{SignedProduct}
 use Rattle.x86_semantics.specs.FlagRules.{freed, status_flags}
 use Rattle.x86_semantics.specs.Registers.{EAX, part, with_part, upper_register}
-use Rattle.x86_semantics.specs.Operands.{Ended, Next, Faulted, at_address, with_flags, reading, writing}
+use Rattle.x86_semantics.specs.Operands.{Ended, Next, Faulted, at_address, with_flags, reading}
 use Rattle.x86_semantics.specs.Arithmetic.{flagged}
 
 -- the accumulator and the register above it: AX, DX:AX or EDX:EAX
@@ -26,10 +26,10 @@ multiply_long high rule w from next choice m =
     reading m from (λ b. flagged rule w (part w EAX m) b (apply_op Mul w (part w EAX m) b) next choice
     (with_long w (apply_op Mul w (part w EAX m) b) (apply_op high w (part w EAX m) b) m))
 
--- IMUL with a destination: the low half
-abbrev pub multiply : Width → Operand → Operand → Operand → ℕ → Choice → MachineState → Ended
-multiply w to left right next choice m =
-    reading m left (λ a. reading m right (λ b. writing m to (apply_op Mul w a b) (λ n. flagged SignedProduct w a b (apply_op Mul w a b) next choice n)))
+-- IMUL with a register to write: the low half
+abbrev pub multiply : Width → ℕ → Operand → Operand → ℕ → Choice → MachineState → Ended
+multiply w r left right next choice m =
+    reading m left (λ a. reading m right (λ b. flagged SignedProduct w a b (apply_op Mul w a b) next choice (with_part w r (apply_op Mul w a b) m)))
 
 -- ---- quotients
 

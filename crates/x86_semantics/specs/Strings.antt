@@ -1,7 +1,6 @@
 -- String operations, once and repeated (manual, volume 2: CMPS, LODS, MOVS, REP, SCAS, STOS).
 use Rattle.std.specs.Prelude.{ℕ, ◌-◌, ◌^◌, Bool, false, not, ◌==◌, ◌||◌, if◌then◌else◌}
 use Rattle.bit_words.specs.declared.width.Width.{Width}
-use Rattle.bit_words.specs.declared.width.Width.TheVariants.{B32}
 use Rattle.bit_words.specs.declared.op.Op.TheVariants.{Sub}
 use Rattle.bit_words.specs.Width.{bytes_of}
 use Rattle.bit_words.specs.Operators.{apply_op}
@@ -9,14 +8,15 @@ use Rattle.memory_map.specs.declared.choice.Choice.{Choice}
 use Rattle.memory_map.specs.State.{MachineState, Flags}
 use Rattle.x86_syntax.specs.declared.instr.Seg.{Seg}
 use Rattle.x86_syntax.specs.declared.instr.Repeat.{Repeat}
-use Rattle.x86_syntax.specs.declared.instr.Repeat.TheVariants.{Once, Rep, Repe, Repne}
+use Rattle.x86_syntax.specs.declared.instr.Repeat.TheVariants.{Once, Repe, Repne}
 use Rattle.x86_semantics.specs.declared.flag_rule.FlagRule.TheVariants.{Difference}
 use Rattle.x86_semantics.specs.declared.operation.StringKind.{StringKind}
 use Rattle.x86_semantics.specs.declared.operation.StringKind.TheVariants.{Move, Compare, Store, Load, Scan}
 use Rattle.x86_semantics.specs.FlagRules.{flags_after}
 use Rattle.x86_semantics.specs.Registers.{EAX, ECX, ESI, EDI, register, with_register, part, with_part}
 use Rattle.x86_semantics.specs.Operands.{Ended, Next, at_address, with_flags, segment_base, loading, storing}
-use Rattle.x86_semantics.specs.Moves.{above, below}
+use Rattle.x86_semantics.specs.Moves.{above}
+use Rattle.x86_semantics.specs.Flow.{counting_down}
 
 -- how far ESI and EDI move: by the width, up where DF is clear and else down
 abbrev pub step_of : Width → Flags → ℕ
@@ -55,8 +55,7 @@ ends_by _ f = false
 -- one more repetition is done: ECX counts down, and the instruction is done again unless ECX is 0 or ZF ends it
 abbrev pub counted : Repeat → ℕ → ℕ → MachineState → Ended
 counted repeat next here m =
-    let count = below (register ECX m) 1 in
-    Next (at_address (if (count == 0) || ends_by repeat m.flags then next else here) (with_register ECX count m))
+    counting_down m (λ count p. Next (at_address (if (count == 0) || ends_by repeat p.flags then next else here) p))
 
 abbrev pub repeated : Repeat → StringKind → Width → Seg → ℕ → Choice → MachineState → Ended
 repeated repeat kind w seg next choice m =

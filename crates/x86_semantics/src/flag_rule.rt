@@ -1,3 +1,9 @@
+ghost use Rattle.std.specs.Prelude.{◌≡◌};
+ghost use Rattle.x86_semantics.specs.FlagRules.{free_of};
+
+use bit_words::Flags;
+use bitflags::Flags as _;
+
 /// A way to compute the status flags of an instruction from its operands `a` and `b`, its result, and the flags before
 /// (`specs/FlagRules.antt`).
 #[derive(Clone, Copy)]
@@ -34,4 +40,23 @@ pub enum FlagRule {
     SignedProduct,
     /// SAHF: CF, PF, AF, ZF and SF are the bits 0, 2, 4, 6 and 7 of `a`.
     Status,
+}
+
+impl FlagRule {
+    /// The flags that the rule leaves free, whatever the operands are.
+    pub fn free(self) -> Flags
+        ensures { result ≡ free_of self }
+    {
+        match self {
+            FlagRule::Logic
+            | FlagRule::ShiftLeft
+            | FlagRule::ShiftRight
+            | FlagRule::ShiftRightSigned => Flags::ADJUST,
+            FlagRule::Product | FlagRule::SignedProduct => Flags::PARITY
+                .union(Flags::ADJUST)
+                .union(Flags::ZERO)
+                .union(Flags::SIGN),
+            _ => Flags::empty(),
+        }
+    }
 }

@@ -1,8 +1,7 @@
+use crate::FlagRule;
 use bit_words::{Op, Width};
 use memory_map::FaultKind;
 use x86_syntax::{Address, Cond, Operand, Repeat, Seg};
-
-use crate::FlagRule;
 
 /// When a loop goes on, beside ECX not being 0 after it has been counted down.
 #[derive(Clone, Copy)]
@@ -74,7 +73,10 @@ pub enum Operation {
         right: Operand,
     },
     /// MOV, MOVZX.
-    Move { to: Operand, from: Operand },
+    Move {
+        to: Operand,
+        from: Operand,
+    },
     /// NOT, BSWAP, MOVSX, CBW, CWDE, CWD, CDQ: `to` becomes the operator's value at `from` and `by`, no flag.
     Convert {
         op: Op,
@@ -84,7 +86,10 @@ pub enum Operation {
         by: u32,
     },
     /// LEA: the address without its segment.
-    Lea { to: Operand, address: Address },
+    Lea {
+        to: Operand,
+        address: Address,
+    },
     /// XCHG of a place with a register of this width.
     Exchange {
         place: Operand,
@@ -106,32 +111,57 @@ pub enum Operation {
         w: Width,
         from: Operand,
     },
-    /// IMUL with a destination: the low half of the product.
+    /// IMUL with a register to write: the low half of the product.
     Multiply {
         w: Width,
-        to: Operand,
+        register: u8,
         left: Operand,
         right: Operand,
     },
     /// DIV, IDIV.
-    Divide { signed: bool, w: Width, by: Operand },
+    Divide {
+        signed: bool,
+        w: Width,
+        by: Operand,
+    },
     /// Jcc.
-    Jump { condition: Cond, offset: i32 },
+    Jump {
+        condition: Cond,
+        offset: i32,
+    },
     /// JMP.
-    Goto { target: Operand },
+    Goto {
+        target: Operand,
+    },
     /// LOOP, LOOPE, LOOPNE.
-    Loop { kind: Looping, offset: i32 },
+    Loop {
+        kind: Looping,
+        offset: i32,
+    },
     /// JECXZ.
-    JumpIfNoCount { offset: i32 },
+    JumpIfNoCount {
+        offset: i32,
+    },
     /// CALL.
-    Call { target: Operand },
+    Call {
+        target: Operand,
+    },
     /// RET, which takes `extra` more bytes off the stack.
-    Return { extra: u32 },
-    Push { from: Operand },
-    Pop { to: Operand },
+    Return {
+        extra: u32,
+    },
+    Push {
+        from: Operand,
+    },
+    Pop {
+        to: Operand,
+    },
     Leave,
     /// SETcc.
-    Set { condition: Cond, to: Operand },
+    Set {
+        condition: Cond,
+        to: Operand,
+    },
     /// CMOVcc.
     MoveIf {
         condition: Cond,
@@ -139,7 +169,9 @@ pub enum Operation {
         from: Operand,
     },
     /// CMC, CLC, STC, CLD, STD.
-    Flag { change: FlagChange },
+    Flag {
+        change: FlagChange,
+    },
     /// LAHF.
     LoadStatus,
     /// SAHF.
@@ -154,5 +186,7 @@ pub enum Operation {
     /// NOP, ENDBR32.
     Nothing,
     /// HLT, INT3, UD2, and what no spelling names.
-    Stop { kind: FaultKind },
+    Stop {
+        kind: FaultKind,
+    },
 }

@@ -1,13 +1,13 @@
 ghost use Rattle.std.specs.Prelude.{◌≡◌};
-ghost use Rattle.x86_semantics.specs.Operations.{count_jump_of, converted, element, exchange_of, jump_of, lea_of, loop_of, of_none, of_one, of_three, of_two, operation_of, return_of, sign_of, unlisted, with_number};
+ghost use Rattle.x86_semantics.specs.Operations.{count_jump_of, converted, element, exchange_of, jump_of, lea_of, loop_of, of_none, of_one, of_three, of_two, operation_of, product_of, return_of, sign_of, unlisted, with_number};
 
+use crate::{FlagChange, FlagRule, Looping, Operation, StringKind};
 use bit_words::{Op, Width};
 use memory_map::FaultKind;
 use x86_syntax::{Cond, Instr, Mnemonic, Operand};
 
-use crate::{FlagChange, FlagRule, Looping, Operation, StringKind};
-
 const EAX: u8 = 0;
+
 const EDX: u8 = 2;
 
 /// The operation of an instruction. What no spelling names may be the fault Undefined.
@@ -158,7 +158,9 @@ fn return_of(extra: Operand) -> Operation
     ensures { result ≡ return_of extra }
 {
     match extra {
-        Operand::Number(_, extra) => Operation::Return { extra },
+        Operand::Number(w, extra) => Operation::Return {
+            extra: w.cut(extra),
+        },
         _ => unlisted(),
     }
 }
@@ -286,10 +288,18 @@ fn shifted(op: Op, rule: FlagRule, w: Width, to: Operand, count: Operand) -> Ope
     }
 }
 
-fn product(w: Width, to: Operand, left: Operand, right: Operand) -> Operation
-    ensures { result ≡ Operation.Multiply w to left right }
+fn product_of(to: Operand, left: Operand, right: Operand) -> Operation
+    ensures { result ≡ product_of to left right }
 {
-    Operation::Multiply { w, to, left, right }
+    match to {
+        Operand::Register(w, register) => Operation::Multiply {
+            w,
+            register,
+            left,
+            right,
+        },
+        _ => unlisted(),
+    }
 }
 
 fn of_two(name: Mnemonic, w: Width, a: Operand, b: Operand) -> Operation
@@ -315,7 +325,7 @@ fn of_two(name: Mnemonic, w: Width, a: Operand, b: Operand) -> Operation
         Mnemonic::Sar => shifted(Op::Sar, FlagRule::ShiftRightSigned, w, a, b),
         Mnemonic::Rol => shifted(Op::Rol, FlagRule::RotateLeft, w, a, b),
         Mnemonic::Ror => shifted(Op::Ror, FlagRule::RotateRight, w, a, b),
-        Mnemonic::Imul => product(w, a, a, b),
+        Mnemonic::Imul => product_of(a, a, b),
         Mnemonic::Cmov(condition) => Operation::MoveIf {
             condition,
             to: a,
@@ -329,7 +339,7 @@ fn of_three(name: Mnemonic, w: Width, a: Operand, b: Operand, c: Operand) -> Ope
     ensures { result ≡ of_three name w a b c }
 {
     match name {
-        Mnemonic::Imul => product(w, a, b, c),
+        Mnemonic::Imul => product_of(a, b, c),
         _ => unlisted(),
     }
 }

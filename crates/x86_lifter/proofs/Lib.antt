@@ -1,0 +1,10 @@
+pub mod Places
+pub mod Values
+pub mod ArithmeticMeaning
+pub mod MoveMeaning
+pub mod FlowMeaning
+pub mod BitMeaning
+pub mod ProductMeaning
+pub mod ShiftMeaning
+pub mod StringMeaning
+pub mod Whole

@@ -1,0 +1,103 @@
+ghost use Rattle.std.specs.Prelude.{◌≡◌, ◌++◌, ◌∷◌, []};
+ghost use Rattle.x86_lifter.specs.Pieces.{places};
+ghost use Rattle.x86_lifter.specs.Lists.{counting, going, loop_test, looping, none, resolved, target_from};
+ghost use Rattle.x86_lifter.specs.Lifted.{next_address};
+
+use crate::moves::none;
+use crate::pieces::{behind_places, copy, fetch, go_to, listed, put, skip_unless};
+use bit_words::{Flags, Op, Width};
+use statement_lang::{Source, Stmt, Stmts, Test};
+use x86_semantics::Looping;
+use x86_syntax::Operand;
+
+const ECX: u8 = 1;
+
+/// The address after an instruction.
+pub fn next_address(at: u32, len: u8) -> u32
+    ensures { result ≡ next_address at len }
+{
+    at.wrapping_add(u32::from(len))
+}
+
+/// Where a branch goes by its offset.
+pub fn target_from(at: u32, len: u8, offset: i32) -> u32
+    ensures { result ≡ target_from at len offset }
+{
+    let sum = u64::from(at) + u64::from(len) + u64::from(offset.cast_unsigned());
+    (sum % 0x1_0000_0000) as u32
+}
+
+/// A branch's operand: an offset as the number of its target.
+pub fn resolved(at: u32, len: u8, target: Operand) -> Operand
+    ensures { result ≡ resolved at len target }
+{
+    match target {
+        Operand::Offset(offset) => Operand::Number(Width::B32, target_from(at, len, offset)),
+        _ => target,
+    }
+}
+
+/// Jcc and JECXZ: to one address where a test holds, else to another.
+pub fn branch(test: Test, there: u32, here: u32) -> Stmts
+    ensures { result.items ≡ Stmt.Branch test there here ∷ [] }
+{
+    listed(&[Stmt::Branch {
+        test,
+        yes: there,
+        no: here,
+    }])
+}
+
+/// JMP; the target is no offset.
+pub fn go(target: Operand) -> Stmts
+    ensures { result.items ≡ places target none ++ going target }
+{
+    let list = [
+        fetch(target, 0, 2),
+        Stmt::Goto {
+            to: Source::Temp(2),
+        },
+    ];
+    behind_places(target, none(), &list)
+}
+
+fn loop_test(kind: Looping) -> Test
+    ensures { result ≡ loop_test kind }
+{
+    match kind {
+        Looping::Counted => Test::Zero(Source::Number(0)),
+        Looping::Equal => Test::Flag(Flags::ZERO, true),
+        Looping::NotEqual => Test::Flag(Flags::ZERO, false),
+    }
+}
+
+/// ECX less 1 into the temporary 6.
+pub fn count_down() -> Stmt
+    ensures { result ≡ Stmt.Put (Source.Temp 6) Op.Sub Width.B32 (Source.Register ECX) (Source.Number 1) }
+{
+    put(
+        6,
+        Op::Sub,
+        Width::B32,
+        Source::Register(ECX),
+        Source::Number(1),
+    )
+}
+
+/// LOOP, LOOPE, LOOPNE.
+pub fn loop_to(kind: Looping, there: u32, here: u32) -> Stmts
+    ensures { result.items ≡ looping kind there here }
+{
+    let list = [
+        count_down(),
+        copy(Source::Register(ECX), Source::Temp(6)),
+        go_to(here),
+        skip_unless(loop_test(kind), 1),
+        Stmt::Branch {
+            test: Test::Zero(Source::Temp(6)),
+            yes: here,
+            no: there,
+        },
+    ];
+    listed(&list)
+}
