@@ -1,3 +1,4 @@
 pub mod Lines
 pub mod Covering
 pub mod Saying
+pub mod WordLemmas

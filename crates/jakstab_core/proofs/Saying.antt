@@ -9,8 +9,12 @@ use Rattle.image_loader.specs.FormE.{IsFormE, Refuses, image_of}
 use Rattle.jakstab_core.specs.declared.status.Input.TheVariants as inputs
 use Rattle.jakstab_core.specs.declared.status.Status.{Status}
 use Rattle.jakstab_core.specs.declared.status.Status.TheVariants.{Done, VerdictNo, Usage, ReadFault, TooLong, WriteFault, ImageRefused, StubsRefused, Memory, InputRefused}
-use Rattle.jakstab_core.specs.Words.{image_word}
-use Rattle.jakstab_core.specs.Says.{Call, Says, Recovers, IsRead, IsUsageExact, IsFaultless, IsComplete, IMAGE_LIMIT}
+use Rattle.jakstab_core.specs.declared.task.Task.{Task}
+use Rattle.jakstab_core.specs.declared.task.Task.TheVariants.{Recover, Decode}
+use Rattle.jakstab_core.specs.Words.{Command, command_of}
+use Rattle.jakstab_core.specs.Headline.{CoversRuns}
+use Rattle.jakstab_core.specs.Tasks.{IsTextOf, Covers}
+use Rattle.jakstab_core.specs.Says.{Call, Says, Performs, IsRead, IsUsageExact, IsFaultless, IsComplete, IMAGE_LIMIT}
 use Rattle.address_regions.specs.Places.{IsAlignment}
 use Rattle.jakstab_core.proofs.Covering.{text_covers}
 
@@ -18,36 +22,43 @@ use Rattle.jakstab_core.proofs.Covering.{text_covers}
 form_align : (bytes : List ℕ) → IsAlignment (image_of bytes).align
 form_align bytes = record { log = 4; least = omega arith; greatest = omega arith; power = refl }
 
--- what `recover` says, with an image read by name, is what the call says
-pub says_recovered : (status : Status) (c : Call) (bytes : List ℕ) → IsRead c bytes
-    → Recovers status bytes c.out_before c.out_after c.write_faults_before c.write_faults_after → Says status c
-says_recovered Done c bytes read r = record {
-  recovered = record { bytes = bytes; read = read; form = r.form };
-  gained = r.gained;
-  covers = text_covers (image_of bytes) (form_align bytes);
-}
-says_recovered (ImageRefused n) c bytes read r = record { bytes = bytes; read = read; fault = r.fault; numbered = r.numbered; refused = r.refused; nothing = r.nothing }
-says_recovered WriteFault c bytes read r = record { recovered = record { bytes = bytes; read = read; form = r.form }; rose = r.rose; part = r.part }
-says_recovered Memory c bytes read r = record { name = read.name; accepted = read.accepted; nothing = r }
-says_recovered VerdictNo c bytes read r = absurd r
-says_recovered Usage c bytes read r = absurd r
-says_recovered (ReadFault input) c bytes read r = absurd r
-says_recovered (TooLong input) c bytes read r = absurd r
-says_recovered (StubsRefused n) c bytes read r = absurd r
-says_recovered (InputRefused line kind) c bytes read r = absurd r
+-- the text of a task says of the machine's runs what it is to say
+covers_of : (task : Task) (bytes text : List ℕ) → IsTextOf task (image_of bytes) text → Covers task (image_of bytes) text
+covers_of Recover bytes text is = let P : List ℕ → Type 0 = CoversRuns (image_of bytes) in subst P (sym is) (text_covers (image_of bytes) (form_align bytes))
+covers_of (Decode address count) bytes text is = tt
 
--- an accepted word is not refused
-accepted_not_refused : (c : Call) (name : List ℕ) (status : Status) → image_word c.words ≡ Some name → (status ≡ Usage → ⊥) → (status ≡ Usage) ↔ (image_word c.words ≡ None)
-accepted_not_refused c name status accepted other = (λ is. absurd (other is), λ none. (let e : Some name ≡ None = sym accepted ∙ none in cc))
+-- what a task says, of an image read by name, is what the call says
+pub says_performed : (status : Status) (c : Call) (bytes : List ℕ) (read : IsRead c bytes)
+    → Performs status read.command.task bytes c.out_before c.out_after c.write_faults_before c.write_faults_after → Says status c
+says_performed Done c bytes read r = record {
+  image = record { bytes = bytes; read = read; form = r.form };
+  text = r.text;
+  is = r.is;
+  gained = r.gained;
+  covers = covers_of read.command.task bytes r.text r.is;
+}
+says_performed (ImageRefused n) c bytes read r = record { bytes = bytes; read = read; fault = r.fault; numbered = r.numbered; refused = r.refused; nothing = r.nothing }
+says_performed WriteFault c bytes read r = record { image = record { bytes = bytes; read = read; form = r.form }; rose = r.rose; text = r.text; is = r.is; part = r.part }
+says_performed Memory c bytes read r = record { command = read.command; accepted = read.accepted; nothing = r }
+says_performed VerdictNo c bytes read r = absurd r
+says_performed Usage c bytes read r = absurd r
+says_performed (ReadFault input) c bytes read r = absurd r
+says_performed (TooLong input) c bytes read r = absurd r
+says_performed (StubsRefused n) c bytes read r = absurd r
+says_performed (InputRefused line kind) c bytes read r = absurd r
+
+-- words that are a command are not refused
+accepted_not_refused : (c : Call) (command : Command) (status : Status) → command_of c.words ≡ Some command → (status ≡ Usage → ⊥) → (status ≡ Usage) ↔ (command_of c.words ≡ None)
+accepted_not_refused c command status accepted other = (λ is. absurd (other is), λ none. (let e : Some command ≡ None = sym accepted ∙ none in cc))
 
 pub usage_exact : (status : Status) (c : Call) → Says status c → IsUsageExact status c
-usage_exact Done c s = accepted_not_refused c s.recovered.read.name Done s.recovered.read.accepted (λ e. cc)
+usage_exact Done c s = accepted_not_refused c s.image.read.command Done s.image.read.accepted (λ e. cc)
 usage_exact Usage c s = (λ is. s.refused, λ none. refl)
-usage_exact (ReadFault inputs.Image) c s = accepted_not_refused c s.name (ReadFault inputs.Image) s.accepted (λ e. cc)
-usage_exact (TooLong inputs.Image) c s = accepted_not_refused c s.name (TooLong inputs.Image) s.accepted (λ e. cc)
-usage_exact (ImageRefused n) c s = accepted_not_refused c s.read.name (ImageRefused n) s.read.accepted (λ e. cc)
-usage_exact WriteFault c s = accepted_not_refused c s.recovered.read.name WriteFault s.recovered.read.accepted (λ e. cc)
-usage_exact Memory c s = accepted_not_refused c s.name Memory s.accepted (λ e. cc)
+usage_exact (ReadFault inputs.Image) c s = accepted_not_refused c s.command (ReadFault inputs.Image) s.accepted (λ e. cc)
+usage_exact (TooLong inputs.Image) c s = accepted_not_refused c s.command (TooLong inputs.Image) s.accepted (λ e. cc)
+usage_exact (ImageRefused n) c s = accepted_not_refused c s.read.command (ImageRefused n) s.read.accepted (λ e. cc)
+usage_exact WriteFault c s = accepted_not_refused c s.image.read.command WriteFault s.image.read.accepted (λ e. cc)
+usage_exact Memory c s = accepted_not_refused c s.command Memory s.accepted (λ e. cc)
 usage_exact VerdictNo c s = absurd s
 usage_exact (ReadFault inputs.Stubs) c s = absurd s
 usage_exact (ReadFault inputs.First) c s = absurd s
@@ -58,9 +69,12 @@ usage_exact (TooLong inputs.Second) c s = absurd s
 usage_exact (StubsRefused n) c s = absurd s
 usage_exact (InputRefused line kind) c s = absurd s
 
--- the words name one image
-one_name : (c : Call) (name other : List ℕ) → image_word c.words ≡ Some name → image_word c.words ≡ Some other → name ≡ other
-one_name c name other a b = let e : Some name ≡ Some other = sym a ∙ b in cc
+-- the words are one command
+one_command : (c : Call) (command other : Command) → command_of c.words ≡ Some command → command_of c.words ≡ Some other → command ≡ other
+one_command c command other a b = let e : Some command ≡ Some other = sym a ∙ b in cc
+
+one_name : (c : Call) (command other : Command) → command_of c.words ≡ Some command → command_of c.words ≡ Some other → command.image ≡ other.image
+one_name c command other a b = ap (λ (x : Command). x.image) (one_command c command other a b)
 
 some_same : (x y : List ℕ) → Some x ≡ Some y → x ≡ y
 some_same x y e = cc
@@ -75,7 +89,7 @@ held_is (Some held) contents name bytes read tells content whole =
 read_is : (c : Call) (f : IsFaultless c) (bytes : List ℕ) → IsRead c bytes → bytes ≡ f.bytes
 read_is c f bytes read =
     let P : List ℕ → Type 0 = λ name. IsWhole c.held name IMAGE_LIMIT bytes in
-    held_is c.held f.contents f.name f.bytes bytes f.tells f.content (subst P (one_name c read.name f.name read.accepted f.accepted) read.content)
+    held_is c.held f.contents f.command.image f.bytes bytes f.tells f.content (subst P (one_name c read.command f.command read.accepted f.accepted) read.content)
 
 not_longer : (told : Option Contents) (contents : Contents) (name bytes : List ℕ) → told ≡ Some contents → contents name ≡ Some bytes → length bytes ≤ IMAGE_LIMIT
     → WhereHeld told name (λ held. IsSomeAnd held (λ content. IMAGE_LIMIT < length content)) → ⊥
@@ -97,13 +111,13 @@ no_refusal faults.Memory n bytes numbered refused form = cc
 pub complete : (status : Status) (c : Call) → Says status c → IsComplete status c
 complete Done c s f = inl refl
 complete Memory c s f = inr refl
-complete Usage c s f = absurd (let e : Some f.name ≡ None = sym f.accepted ∙ s.refused in cc)
+complete Usage c s f = absurd (let e : Some f.command ≡ None = sym f.accepted ∙ s.refused in cc)
 complete (ReadFault inputs.Image) c s f =
     let P : List ℕ → Type 0 = λ name. Rose (c.read_faults_before name) (c.read_faults_after name) in
-    absurd (f.read (subst P (one_name c s.name f.name s.accepted f.accepted) s.rose))
+    absurd (f.read (subst P (one_name c s.command f.command s.accepted f.accepted) s.rose))
 complete (TooLong inputs.Image) c s f =
     let P : List ℕ → Type 0 = λ name. WhereHeld c.held name (λ held. IsSomeAnd held (λ content. IMAGE_LIMIT < length content)) in
-    absurd (not_longer c.held f.contents f.name f.bytes f.tells f.content f.short (subst P (one_name c s.name f.name s.accepted f.accepted) s.longer))
+    absurd (not_longer c.held f.contents f.command.image f.bytes f.tells f.content f.short (subst P (one_name c s.command f.command s.accepted f.accepted) s.longer))
 complete (ImageRefused n) c s f =
     let P : List ℕ → Type 0 = Refuses s.fault in
     absurd (no_refusal s.fault n f.bytes s.numbered (subst P (read_is c f s.bytes s.read) s.refused) f.form)

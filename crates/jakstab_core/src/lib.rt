@@ -1,10 +1,14 @@
 // The program: its words, its commands, its statuses, and the top call that does a command.
-// It stands on image_loader, flow_worklist, automaton_text and outside_io.
+// It stands on image_loader, flow_worklist, automaton_text, decode_listing and outside_io.
 // Its contract: `jakstab` keeps what `specs/Says.antt` states for each status, the headline among it.
 #![tactic(auto)]
 
+#[cfg(test)]
+mod decode_tests;
+mod perform;
 mod recover;
 mod status;
+mod task;
 #[cfg(test)]
 mod tests;
 mod top;

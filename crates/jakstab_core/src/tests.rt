@@ -8,7 +8,7 @@ use std::test::Fail;
 const ENTRY: [u8; 4] = [0x00, 0x80, 0x04, 0x08];
 
 // An ELF file of one segment at 08048000 with this code, which may be read and executed.
-fn file_with(alloc: Global, code: &[u8]) -> Result<Vec<u8>, AllocError> {
+pub fn file_with(alloc: Global, code: &[u8]) -> Result<Vec<u8>, AllocError> {
     let size = [code.len().min(255) as u8, 0, 0, 0];
     let mut file = Vec::new(alloc);
     for part in [
@@ -39,7 +39,7 @@ fn words_of(alloc: Global, words: &[&str]) -> Result<Vec<String>, AllocError> {
     Ok(all)
 }
 
-fn sink(
+pub fn sink(
     alloc: Global,
     per_write: usize,
     fail_at: Vec<u64>,

@@ -1,10 +1,9 @@
 ghost use Rattle.std.specs.Prelude.{◌≡◌, Some, map, string_bytes};
 ghost use Rattle.jakstab_core.specs.Says.{Call, Says, IsUsageExact, IsComplete, IsNoted};
 ghost use Rattle.jakstab_core.specs.StatusLine.{status_line};
-ghost use Rattle.jakstab_core.specs.Words.{image_word};
 
-use crate::recover::recover;
-use crate::words::image_name;
+use crate::perform::perform;
+use crate::words::command;
 use crate::{Input, Status};
 use outside_io::{Shelf, ShelfFault, Sink, write_all};
 use std::alloc::Global;
@@ -37,14 +36,14 @@ pub fn jakstab<R: Threads + Sync, S: Shelf, K: Sink>(
 fn done<S: Shelf, K: Sink>(alloc: Global, words: &[String], shelf: &mut S, out: &mut K) -> Status
     ensures { Says result (record { words = map string_bytes words.now; held = S.contents shelf.old; read_faults_before = S.faults shelf.old; read_faults_after = S.faults shelf.new; out_before = K.written out.old; out_after = K.written out.new; write_faults_before = K.faults out.old; write_faults_after = K.faults out.new }) }
 {
-    match image_name(words) {
+    match command(words) {
         None => Status::Usage,
-        Some(name) => {
+        Some((name, task)) => {
             match shelf.read_whole(alloc, name, IMAGE_LIMIT) {
                 Err(ShelfFault::Failed) => Status::ReadFault(Input::Image),
                 Err(ShelfFault::TooLong { .. }) => Status::TooLong(Input::Image),
                 Err(ShelfFault::Memory) => Status::Memory,
-                Ok(bytes) => recover(alloc, &bytes, out),
+                Ok(bytes) => perform(alloc, task, &bytes, out),
             }
         }
     }

@@ -168,6 +168,111 @@ F3 0F 1E FB|endbr32
 0F 0B|ud2
 CC|int3
 F4|hlt
+F0 00 18|lock add byte [eax], bl
+66 39 C8|cmp ax, cx
+66 03 C1|add ax, cx
+F0 80 08 7F|lock or byte [eax], 7F
+80 F9 41|cmp cl, 41
+F0 81 20 FF 00 00 00|lock and dword [eax], 000000FF
+81 FA 00 10 00 00|cmp edx, 00001000
+66 81 FB FF 7F|cmp bx, 7FFF
+F0 83 6D 00 01|lock sub dword [ebp], 00000001
+66 83 FE FF|cmp si, FFFF
+66 85 D2|test dx, dx
+66 A9 01 80|test ax, 8001
+66 87 0E|xchg word [esi], cx
+F0 87 0B|lock xchg dword [ebx], ecx
+66 89 E0|mov ax, sp
+66 A1 00 10 40 00|mov ax, word [00401000]
+66 41|inc cx
+F0 FE 07|lock inc byte [edi]
+F0 FE 4E 04|lock dec byte [esi+00000004]
+66 FF C3|inc bx
+66 FF 08|dec word [eax]
+F0 FF 0F|lock dec dword [edi]
+F6 D2|not dl
+F0 F6 10|lock not byte [eax]
+F6 E3|mul bl
+F6 F1|div cl
+F6 3B|idiv byte [ebx]
+66 F7 C2 01 00|test dx, 0001
+F0 F7 17|lock not dword [edi]
+F7 D9|neg ecx
+66 F7 D8|neg ax
+F0 F7 1E|lock neg dword [esi]
+66 F7 E6|mul si
+F7 EF|imul edi
+66 F7 E8|imul ax
+66 F7 F5|div bp
+66 69 D1 34 12|imul dx, cx, 1234
+66 0F AF 07|imul ax, word [edi]
+C0 E1 04|shl cl, 04
+C0 38 01|sar byte [eax], 01
+C1 CA 08|ror edx, 08
+66 C1 C0 0F|rol ax, 0F
+66 C1 E9 10|shr cx, 10
+D0 E3|shl bl, 01
+D0 FC|sar ah, 01
+D1 C1|rol ecx, 01
+66 D1 08|ror word [eax], 01
+D1 65 08|shl dword [ebp+00000008], 01
+66 D1 EE|shr si, 01
+66 D1 FF|sar di, 01
+D2 C6|rol dh, cl
+D2 F8|sar al, cl
+D3 C9|ror ecx, cl
+66 D3 C3|rol bx, cl
+66 D3 E5|shl bp, cl
+D3 3C 24|sar dword [esp], cl
+66 D3 FA|sar dx, cl
+66 0F BE C8|movsx cx, al
+66 A7|cmpsw
+66 AB|stosw
+66 AD|lodsw
+8B 11|mov edx, dword [ecx]
+8B 0C 25 00 00 00 09|mov ecx, dword [09000000]
+8B 54 8D 10|mov edx, dword [ebp+ecx*4+00000010]
+8B 83 00 00 01 00|mov eax, dword [ebx+00010000]
+8B B4 24 80 00 00 00|mov esi, dword [esp+00000080]
+8B 85 FC FF FF FF|mov eax, dword [ebp+FFFFFFFC]
+8B 4C D5 80|mov ecx, dword [ebp+edx*8+FFFFFF80]
+8B 3C 6D 00 00 00 00|mov edi, dword [ebp*2]
+8B 1C 64|mov ebx, dword [esp]
+8B 2C 1A|mov ebp, dword [edx+ebx*1]
+26 8B 00|mov eax, dword [eax]
+3E 8B 00|mov eax, dword [eax]
+2E 89 01|mov dword [ecx], eax
+65 89 01|mov dword gs:[ecx], eax
+26 26 90|nop
+F3 66 90|nop
+64 90|nop
+64 C3|ret
+65 50|push eax
+F3 F3 A4|rep movsb
+66 F3 A5|rep movsw
+2E F3 66 A5|rep movsw
+64 F3 A6|repe cmpsb fs
+65 F2 AE|repne scasb
+F2 F2 A6|repne cmpsb
+F0 F0 FF 00|lock inc dword [eax]
+F0 64 01 08|lock add dword fs:[eax], ecx
+70 00|jo 08048002
+71 00|jno 08048002
+72 00|jb 08048002
+73 00|jae 08048002
+75 00|jne 08048002
+76 00|jbe 08048002
+77 00|ja 08048002
+78 00|js 08048002
+79 00|jns 08048002
+7A 00|jp 08048002
+7B 00|jnp 08048002
+7C 00|jl 08048002
+7D 00|jge 08048002
+7E 00|jle 08048002
+7F 00|jg 08048002
+EB 80|jmp 08047F82
+E9 FB 7F FB E7|jmp F0000000
 66 66 90|nop
 66 66 66 66 66 66 66 66 66 66 66 66 66 66 90|nop
 66 66 66 66 66 66 66 66 66 66 66 66 F7 D0|not ax";
@@ -223,7 +328,72 @@ FE D0|NotListed 1
 FF F8|NotListed 1
 C0 D0|NotListed 1
 D3 F0|NotListed 1
-0F 1F C8|NotListed 2";
+0F 1F C8|NotListed 2
+0F|Truncated
+66|Truncated
+2E|Truncated
+EB|Truncated
+68 00 00 00|Truncated
+C2 00|Truncated
+A1 00 00 00|Truncated
+8B 05 00 00 00|Truncated
+8B 44 24|Truncated
+8B 80 00 00 00|Truncated
+C7 00 01 02 03|Truncated
+69 C0 00|Truncated
+36 36 36 36 36 36 36 36 36 36 36 36 36 36|Truncated
+2E 2E 2E 2E 2E 2E 2E 2E 2E 2E 2E 2E 2E 2E 2E|TooLong
+26 2E 90|NotListed 1
+36 36 65 90|NotListed 2
+F3 F0 A4|NotListed 1
+F0 F3 C3|NotListed 1
+66 67 90|NotListed 1
+66 00 08|NotListed 1
+66 04 7F|NotListed 1
+66 6A 01|NotListed 1
+66 E8 00 00|NotListed 1
+66 EB FE|NotListed 1
+66 70 00|NotListed 1
+66 F6 D0|NotListed 1
+66 8F 00|NotListed 1
+66 FF 30|NotListed 2
+66 0F 80 00 00|NotListed 2
+66 0F 90 C0|NotListed 2
+66 0F B7 C0|NotListed 2
+F3 01 C0|NotListed 1
+F3 40|NotListed 1
+F2 C3|NotListed 1
+F2 AA|NotListed 1
+F2 0F|NotListed 1
+F3 0F 1F 00|NotListed 2
+F3 0F AF C0|NotListed 2
+F0 38 00|NotListed 1
+F0 02 00|NotListed 1
+F0 84 00|NotListed 1
+F0 88 00|NotListed 1
+F0 8D 00|NotListed 1
+F0 40|NotListed 1
+F0 83 F8 01|NotListed 2
+F0 87 C0|NotListed 2
+F0 FE C0|NotListed 2
+F0 F7 20|NotListed 2
+82 C0 00|NotListed 0
+60|NotListed 0
+9C|NotListed 0
+C8|NotListed 0
+CD 80|NotListed 0
+D8|NotListed 0
+E4|NotListed 0
+EA|NotListed 0
+0F A2|NotListed 1
+0F 38|NotListed 1
+C7 08|NotListed 1
+F7 08|NotListed 1
+FF 18|NotListed 1
+FF 28|NotListed 1
+C1 30|NotListed 1
+D0 D0|NotListed 1
+D1 18|NotListed 1";
 
 fn bytes_of(alloc: Global, words: &str) -> Result<Vec<u8>, Fail> {
     let mut bytes = Vec::new(alloc);
