@@ -19,51 +19,52 @@ use Rattle.flow_worklist.specs.Post.{NoState}
 use Rattle.flow_worklist.specs.Analysis.{analysis_of, image_log, automaton_of, mark_of, Keeps}
 use Rattle.flow_worklist.proofs.StepSound.{analysis_sound}
 use Rattle.flow_worklist.proofs.Starting.{start_keeps}
-use Rattle.jakstab_core.specs.Headline.{HasLine, IsPrintedOpen, IsCovered, CoversRuns, BUDGET, recovered_text}
+use Rattle.jakstab_core.specs.declared.task.Options.{Options}
+use Rattle.jakstab_core.specs.Headline.{HasLine, IsPrintedOpen, IsCovered, CoversRuns, recovered_text}
 use Rattle.jakstab_core.proofs.Lines.{has_edge_line, has_open_line}
 
-module _ (image : Image) where
+module _ (image : Image) (options : Options) where
   abbrev Known : MachineState → Type 0
-  Known m = IsKnown (machine_of image) (λ (s : NoState) (state : MachineState). ⊤) (Keeps image) (image_log image BUDGET) m
+  Known m = IsKnown (machine_of image) (λ (s : NoState) (state : MachineState). ⊤) (Keeps image) (image_log image options.budget) m
 
   start_known : (m : MachineState) → Start image m → Known m
   start_known m start =
-      let closed : IsClosed (analysis_of image) (image_log image BUDGET) = log_closed (analysis_of image) BUDGET in
+      let closed : IsClosed (analysis_of image) (image_log image options.budget) = log_closed (analysis_of image) options.budget in
       record {
         row = closed.first;
         in_log = closed.first_in_log;
         located = closed.first_located ∙ sym start.entry;
         describes = tt;
-        keeps = start_keeps image (image_log image BUDGET).writes m start;
+        keeps = start_keeps image (image_log image options.budget).writes m start;
       }
 
   follows : (m : MachineState) (states : List MachineState) → Start image m → IsRun (machine_of image) m states
-      → Follows (machine_of image) Known (IsOpen (analysis_of image) (image_log image BUDGET)) (image_log image BUDGET).edges m states
+      → Follows (machine_of image) Known (IsOpen (analysis_of image) (image_log image options.budget)) (image_log image options.budget).edges m states
   follows m states start run =
-      run_follows (analysis_of image) (machine_of image) (λ s state. ⊤) (Keeps image) (analysis_sound image) (image_log image BUDGET) (log_closed (analysis_of image) BUDGET)
+      run_follows (analysis_of image) (machine_of image) (λ s state. ⊤) (Keeps image) (analysis_sound image) (image_log image options.budget) (log_closed (analysis_of image) options.budget)
       m states (start_known m start) run
 
-  printed_open : (a : ℕ) → IsOpen (analysis_of image) (image_log image BUDGET) a → IsPrintedOpen (recovered_text image) a
+  printed_open : (a : ℕ) → IsOpen (analysis_of image) (image_log image options.budget) a → IsPrintedOpen (recovered_text image options) a
   unfolding recovered_text automaton_of
   printed_open a (cause, held) = (
     cause,
-    has_open_line (automaton_of image (image_log image BUDGET)) (mark_of (a, cause))
-        (Contains-mark_set (map mark_of (marks_of (analysis_of image) (image_log image BUDGET))) (mark_of (a, cause))
-        (Contains-map mark_of (marks_of (analysis_of image) (image_log image BUDGET)) (a, cause) held)),
+    has_open_line (automaton_of image (image_log image options.budget)) (mark_of (a, cause))
+        (Contains-mark_set (map mark_of (marks_of (analysis_of image) (image_log image options.budget))) (mark_of (a, cause))
+        (Contains-map mark_of (marks_of (analysis_of image) (image_log image options.budget)) (a, cause) held)),
   )
 
-  printed_edge : (e : Edge) → Contains (image_log image BUDGET).edges e → HasLine (recovered_text image) (edge_line e)
+  printed_edge : (e : Edge) → Contains (image_log image options.budget).edges e → HasLine (recovered_text image options) (edge_line e)
   unfolding recovered_text automaton_of
-  printed_edge e held = has_edge_line (automaton_of image (image_log image BUDGET)) e (Contains-edge_set (image_log image BUDGET).edges e held)
+  printed_edge e held = has_edge_line (automaton_of image (image_log image options.budget)) e (Contains-edge_set (image_log image options.budget).edges e held)
 
   covered : (m : MachineState) (states : List MachineState)
-      → Follows (machine_of image) Known (IsOpen (analysis_of image) (image_log image BUDGET)) (image_log image BUDGET).edges m states
-      → IsCovered image (recovered_text image) m states
+      → Follows (machine_of image) Known (IsOpen (analysis_of image) (image_log image options.budget)) (image_log image options.budget).edges m states
+      → IsCovered image (recovered_text image options) m states
   covered m [] f = tt
   covered m (next ∷ rest) f = λ shut.
       let step = f.1 (λ at. shut (printed_open m.eip at)) in
       (printed_edge (edge_of image m next) step.0, covered next rest step.1)
 
 -- no run leaves the printed automaton before a location that is printed open
-pub text_covers : (image : Image) → CoversRuns image (recovered_text image)
-text_covers image = λ m start states run. covered image m states (follows image m states start run)
+pub text_covers : (image : Image) (options : Options) → CoversRuns image (recovered_text image options)
+text_covers image options = λ m start states run. covered image options m states (follows image options m states start run)

@@ -8,6 +8,7 @@ use Rattle.flow_log.specs.Run.{IsRun}
 use Rattle.x86_machine.specs.Machine.{machine_of, edge_of}
 use Rattle.automaton_text.specs.Text.{newline, edge_line, open_line, text_of}
 use Rattle.flow_worklist.specs.Analysis.{image_log, automaton_of}
+use Rattle.jakstab_core.specs.declared.task.Options.{Options}
 
 -- nothing, or whole lines
 abbrev pub IsLineStart : List ℕ → Type 0
@@ -35,10 +36,6 @@ IsCovered image text m (next ∷ rest) =
 abbrev pub CoversRuns : Image → List ℕ → Type 0
 CoversRuns image text = (m : MachineState) → Start image m → (states : List MachineState) → IsRun (machine_of image) m states → IsCovered image text m states
 
--- how many rows are expanded
-abbrev pub BUDGET : ℕ
-BUDGET = 100000
-
 -- the text of the automaton of the log of an image
-unfoldable pub recovered_text : Image → List ℕ
-recovered_text image = text_of (automaton_of image (image_log image BUDGET))
+unfoldable pub recovered_text : Image → Options → List ℕ
+recovered_text image options = text_of (automaton_of image (image_log image options.budget))
