@@ -24,7 +24,7 @@ form_align bytes = record { log = 4; least = omega arith; greatest = omega arith
 
 -- the text of a task says of the machine's runs what it is to say
 covers_of : (task : Task) (bytes text : List ℕ) → IsTextOf task (image_of bytes) text → Covers task (image_of bytes) text
-covers_of Recover bytes text is = let P : List ℕ → Type 0 = CoversRuns (image_of bytes) in subst P (sym is) (text_covers (image_of bytes) (form_align bytes))
+covers_of (Recover options) bytes text is = let P : List ℕ → Type 0 = CoversRuns (image_of bytes) in subst P (sym is) (text_covers (image_of bytes) (form_align bytes) options)
 covers_of (Decode address count) bytes text is = tt
 
 -- what a task says, of an image read by name, is what the call says

@@ -13,7 +13,7 @@ use Rattle.std.proofs.lemmas.Str.{digit_value_digit}
 use Rattle.std.proofs.Math.Nat.{mul-le-mul_left, pow-succ'}
 use Rattle.outside_io.specs.Hex.{digit_number, number_after, hex8}
 use Rattle.outside_io.proofs.HexFacts.{digit_is, reads_hex8, length-hex8}
-use Rattle.jakstab_core.specs.Words.{is_digit, is_number, is_count, count_of, address_of, listing_of}
+use Rattle.jakstab_core.specs.Words.{is_digit, is_number, is_within, number_within, address_of, listing_of}
 
 and_left : (x y : Bool) → (x && y) ≡ true → x ≡ true
 and_left true y e = refl
@@ -47,13 +47,13 @@ number_is word is =
       short = leb-true (length word) 10 (and_right (nat_le 1 (length word)) (nat_le (length word) 10) front);
     }
 
--- a number that is not read is too great to be a count
-pub count_none : (word : List ℕ) → is_number word ≡ true → SomeIff {T = ℕ} None (IsNumeral 10 word × (length word ≤ 10) × (digits_value 10 word < 2 ^ 32)) (digits_value 10 word) → count_of word ≡ None
-count_none word is unread =
-    let P : Bool → Type 0 = λ b. is_count (digits_value 10 word) ≡ b → cond (is_number word && b) (Some (digits_value 10 word)) None ≡ None in
-    (elim (is_count (digits_value 10 word)) as P [
+-- a number that is not read is too great for a limit below 2^32
+pub number_none : (limit : ℕ) (word : List ℕ) → limit < 2 ^ 32 → is_number word ≡ true → SomeIff {T = ℕ} None (IsNumeral 10 word × (length word ≤ 10) × (digits_value 10 word < 2 ^ 32)) (digits_value 10 word) → number_within limit word ≡ None
+number_none limit word small is unread =
+    let P : Bool → Type 0 = λ b. is_within limit (digits_value 10 word) ≡ b → cond (is_number word && b) (Some (digits_value 10 word)) None ≡ None in
+    (elim (is_within limit (digits_value 10 word)) as P [
       | true ↦ λ within.
-          let few : digits_value 10 word ≤ 100000 = leb-true (digits_value 10 word) 100000 (and_right (nat_le 1 (digits_value 10 word)) (nat_le (digits_value 10 word) 100000) within) in
+          let few : digits_value 10 word ≤ limit = leb-true (digits_value 10 word) limit (and_right (nat_le 1 (digits_value 10 word)) (nat_le (digits_value 10 word) limit) within) in
           let number : IsShortNumeral word = number_is word is in
           absurd (unread (number.numeral, number.short, omega arith))
       | false ↦ λ without. rw is refl

@@ -7,9 +7,13 @@ use Rattle.flow_log.specs.declared.cause.Cause.{Cause}
 use Rattle.flow_log.specs.Run.{IsRun}
 use Rattle.x86_machine.specs.Machine.{machine_of, edge_of}
 use Rattle.automaton_text.specs.Text.{newline, edge_line, open_line, text_of}
-use Rattle.domain_laws.specs.declared.flat.FlatNumbers.{FlatNumbers}
+use Rattle.domain_laws.specs.Laws.{Values}
 use Rattle.domain_laws.specs.FlatLaws.{flat}
-use Rattle.flow_worklist.specs.Analysis.{ImageLog, image_log, automaton_of}
+use Rattle.bounded_values.specs.BoundedLaws.{bounded}
+use Rattle.flow_worklist.specs.Analysis.{image_log, automaton_of}
+use Rattle.jakstab_core.specs.declared.task.DomainName.{DomainName}
+use Rattle.jakstab_core.specs.declared.task.DomainName.TheVariants.{Flat, Bounded}
+use Rattle.jakstab_core.specs.declared.task.Options.{Options}
 
 -- nothing, or whole lines
 abbrev pub IsLineStart : List ℕ → Type 0
@@ -37,17 +41,15 @@ IsCovered image text m (next ∷ rest) =
 abbrev pub CoversRuns : Image → List ℕ → Type 0
 CoversRuns image text = (m : MachineState) → Start image m → (states : List MachineState) → IsRun (machine_of image) m states → IsCovered image text m states
 
--- how many rows are expanded, and how many values of one rank are seen at a place before others are raised
-abbrev pub BUDGET : ℕ
-BUDGET = 100000
+-- the text of the automaton of the log of an image over a domain
+unfoldable pub log_text : {D : Type 0} → Values D → Image → ℕ → ℕ → List ℕ
+log_text d image k budget = text_of (automaton_of image (image_log d image k budget))
 
-abbrev pub MOST_SEEN : ℕ
-MOST_SEEN = 32
+-- over the domain of this name
+abbrev pub text_over : DomainName → Image → ℕ → ℕ → List ℕ
+text_over Flat image k budget = log_text flat image k budget
+text_over Bounded image k budget = log_text bounded image k budget
 
--- the log of an image over flat numbers
-abbrev pub recovered_log : Image → ImageLog FlatNumbers
-recovered_log image = image_log flat image MOST_SEEN BUDGET
-
--- the text of its automaton
-unfoldable pub recovered_text : Image → List ℕ
-recovered_text image = text_of (automaton_of image (recovered_log image))
+-- the text of `recover`
+abbrev pub recovered_text : Image → Options → List ℕ
+recovered_text image options = text_over options.domain image options.k options.budget

@@ -8,10 +8,10 @@ use Rattle.jakstab_core.specs.Headline.{CoversRuns, recovered_text}
 
 -- the text that it writes
 abbrev pub IsTextOf : Task → Image → List ℕ → Type 0
-IsTextOf Recover image text = text ≡ recovered_text image
+IsTextOf (Recover options) image text = text ≡ recovered_text image options
 IsTextOf (Decode address count) image text = IsListing image address count text
 
 -- what that text says of the machine's runs: no run leaves the automaton before a location printed open
 abbrev pub Covers : Task → Image → List ℕ → Type 0
-Covers Recover image text = CoversRuns image text
+Covers (Recover options) image text = CoversRuns image text
 Covers (Decode address count) image text = Unit {0}

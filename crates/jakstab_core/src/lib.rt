@@ -12,6 +12,8 @@ mod task;
 #[cfg(test)]
 mod tests;
 mod top;
+#[cfg(test)]
+mod word_tests;
 mod words;
 
 pub use status::{Input, Status};

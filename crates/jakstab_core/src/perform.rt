@@ -16,7 +16,7 @@ fn task_text(alloc: Global, task: Task, image: &Image) -> Result<Vec<u8>, NoMemo
     ensures { IfOk result (λ text. IsTextOf task image.now text.items) }
 {
     match task {
-        Task::Recover => recovered_text(alloc, image),
+        Task::Recover(options) => recovered_text(alloc, image, options),
         Task::Decode { address, count } => print_listing(alloc, image, address, count),
     }
 }

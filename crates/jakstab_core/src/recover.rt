@@ -1,24 +1,39 @@
 ghost use Rattle.std.specs.Prelude.{◌≡◌, IfOk};
-ghost use Rattle.jakstab_core.specs.Headline.{recovered_text};
+ghost use Rattle.domain_laws.specs.Made.{values_of};
+ghost use Rattle.jakstab_core.specs.Headline.{log_text, recovered_text};
 
+use crate::task::{DomainName, Options};
 use automaton_text::print_automaton;
 use bit_words::NoMemory;
-use domain_laws::FlatNumbers;
+use bounded_values::Bounded;
+use domain_laws::{Domain, FlatNumbers};
 use flow_worklist::{Limits, automaton_of, explore};
 use image_loader::Image;
 use std::alloc::Global;
 
-/// How many rows are expanded, and how many values of one rank are seen at a place before others are raised.
-const LIMITS: Limits = Limits {
-    k: 32,
-    budget: 100_000,
-};
-
-/// The text of the automaton of an image.
-pub fn recovered_text(alloc: Global, image: &Image) -> Result<Vec<u8>, NoMemory>
-    ensures { IfOk result (λ text. text.items ≡ recovered_text image.now) }
+// The text of the automaton of an image's log over a domain.
+fn log_text<D: Domain>(alloc: Global, image: &Image, limits: Limits) -> Result<Vec<u8>, NoMemory>
+    ensures { IfOk result (λ text. text.items ≡ log_text (values_of D.Domain.own D.eq) image.now limits.k limits.budget) }
 {
-    let log = explore::<FlatNumbers>(alloc, image, LIMITS)?;
+    let log = explore::<D>(alloc, image, limits)?;
     let automaton = automaton_of(alloc, image, &log)?;
     print_automaton(alloc, &automaton)
+}
+
+/// The text of the automaton of an image.
+pub fn recovered_text(
+    alloc: Global,
+    image: &Image,
+    options: Options,
+) -> Result<Vec<u8>, NoMemory>
+    ensures { IfOk result (λ text. text.items ≡ recovered_text image.now options) }
+{
+    let limits = Limits {
+        k: options.k,
+        budget: options.budget,
+    };
+    match options.domain {
+        DomainName::Flat => log_text::<FlatNumbers>(alloc, image, limits),
+        DomainName::Bounded => log_text::<Bounded>(alloc, image, limits),
+    }
 }

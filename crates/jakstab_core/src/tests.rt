@@ -31,7 +31,7 @@ pub fn file_with(alloc: Global, code: &[u8]) -> Result<Vec<u8>, AllocError> {
     Ok(file)
 }
 
-fn words_of(alloc: Global, words: &[&str]) -> Result<Vec<String>, AllocError> {
+pub fn words_of(alloc: Global, words: &[&str]) -> Result<Vec<String>, AllocError> {
     let mut all = Vec::new(alloc);
     for word in words {
         all.push(String::from_str(alloc, word)?)?;
@@ -57,7 +57,7 @@ edge 08048000 08048000 EBFE jmp 08048000
 end 1 1 0
 ";
 
-const JE_NEXT: &str = "\
+pub const JE_NEXT: &str = "\
 jakstab-automaton 1
 entry 08048000
 loc 08048000

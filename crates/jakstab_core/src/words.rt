@@ -1,9 +1,20 @@
-ghost use Rattle.std.specs.Prelude.{◌≡◌, ◌≤◌, ◌<◌, ◌+◌, [], ◌∷◌, ◌++◌, length, slice_index_or, map, option_map, string_bytes};
+ghost use Rattle.std.specs.Prelude.{◌≡◌, ◌≤◌, ◌<◌, ◌+◌, [], ◌∷◌, ◌++◌, length, slice_index_or, map, option_map, string_bytes, codes, MatchOption};
 ghost use Rattle.std.specs.List.{list_all, list_any, before_first, after_first, position_or_len};
-ghost use Rattle.jakstab_core.specs.Words.{named_command, command_of, recover_of, decode_of, listing_of, is_file_name, is_option, is_end_of_options, address_of, count_of, is_digit, is_number};
+ghost use Rattle.jakstab_core.specs.Words.{named_command, command_of, recover_of, decode_of, listing_of, is_option, is_end_of_options, address_of, number_within, is_digit, is_number, is_known, pieces, values_of, number_given, domain_given, domain_named, options_of, only_name, file_name, takes_next, piece_alone, is_equals};
+ghost use Rattle.jakstab_core.specs.Given.{IsGiven, piece_of};
 
-use crate::task::Task;
+use crate::task::{DomainName, Options, Task};
 use outside_io::{parse_hex8_any_case, parse_number};
+
+/// How many values of one rank a location sees before it is widened, where the words do not say, and at most.
+const K: u32 = 32;
+
+const K_LIMIT: u32 = 1_024;
+
+/// How many rows are expanded, where the words do not say, and at most.
+const BUDGET: u32 = 100_000;
+
+const BUDGET_LIMIT: u32 = 1_000_000;
 
 /// How many instructions may be asked for, at most.
 const COUNT_LIMIT: u32 = 100_000;
@@ -20,29 +31,205 @@ pub fn command(words: &[String]) -> Option<(&str, Task)>
     }
 }
 
-// The command `recover IMAGE`.
+// The command `recover IMAGE` with its options.
 fn recover_words(words: &[String]) -> Option<(&str, Task)>
     ensures { option_map (λ p. named_command p.0.now p.1) result ≡ recover_of (map string_bytes words.now) }
 {
-    match words {
-        [image] => {
-            if is_file_name(image.as_str()) {
-                Some((image.as_str(), Task::Recover))
+    let (front, back) = around_end_of_options(words);
+    if !are_known(front) {
+        return None;
+    }
+    let image = image_given(front, back)?;
+    let options = options_given(front)?;
+    Some((image, Task::Recover(options)))
+}
+
+/// An option with its value, or a positional word, whose option is the empty one.
+#[derive(Clone, Copy)]
+struct Piece<'a> {
+    option: &'a str,
+    value: &'a str,
+}
+
+/// How often an option was given, and its value where it was given once.
+#[derive(Clone, Copy)]
+enum Given<'a> {
+    Never,
+    Once(&'a str),
+    Often,
+}
+
+// The first piece of words, and the words behind it.
+fn first_piece<'a>(word: &'a str, rest: &'a [String]) -> (Piece<'a>, &'a [String])
+    ensures piece { piece_of result.0 ∷ pieces (map string_bytes result.1.now) ≡ pieces (word.now ∷ map string_bytes rest.now) }
+    ensures behind { length result.1.now ≤ length rest.now }
+{
+    match rest {
+        [] => (piece_alone(word), rest),
+        [next, behind @ ..] => {
+            if takes_next(word) && !is_option(next.as_str()) {
+                let value = next.as_str();
+                (
+                    Piece {
+                        option: word,
+                        value,
+                    },
+                    behind,
+                )
             } else {
-                None
+                (piece_alone(word), rest)
             }
         }
-        _ => None,
     }
 }
 
-// Whether a word is the name of a file: not empty, and no option.
-fn is_file_name(word: &str) -> bool
-    ensures { result ≡ is_file_name word.now }
+// The piece of a word that does not look at the next one.
+fn piece_alone(word: &str) -> Piece<'_>
+    ensures { piece_of result ≡ piece_alone word.now }
 {
-    match word.as_bytes() {
-        [] => false,
-        [first, rest @ ..] => *first != b'-' || rest.is_empty(),
+    if !is_option(word) {
+        return Piece {
+            option: "",
+            value: word,
+        };
+    }
+    match word.split_once('=') {
+        Some((option, value)) => Piece { option, value },
+        None => Piece {
+            option: word,
+            value: "",
+        },
+    }
+}
+
+// Whether the value of an option stands in the next word.
+fn takes_next(word: &str) -> bool
+    ensures { result ≡ takes_next word.now }
+{
+    is_option(word) && !has_equals(word.as_bytes())
+}
+
+fn has_equals(word: &[u8]) -> bool
+    ensures { result ≡ list_any is_equals word.now }
+{
+    word.iter().any(|c| *c == b'=')
+}
+
+fn are_known(words: &[String]) -> bool
+    ensures { result ≡ list_all is_known (pieces (map string_bytes words.now)) }
+{
+    let mut left = words;
+    while let Some((word, rest)) = left.split_first() {
+        let (piece, rest) = first_piece(word.as_str(), rest);
+        if !is_known(piece.option) {
+            return false;
+        }
+        left = rest;
+    }
+    true
+}
+
+fn is_known(option: &str) -> bool
+    ensures { result ≡ is_known (record { option = option.now; value = [] }) }
+{
+    match option {
+        "" => true,
+        "--k" => true,
+        "--budget" => true,
+        "--domain" => true,
+        _ => false,
+    }
+}
+
+// The first value given to an option, and the words behind it.
+fn find<'a>(words: &'a [String], option: &str) -> Option<(&'a str, &'a [String])>
+    ensures { MatchOption result (values_of option.now (pieces (map string_bytes words.now)) ≡ []) (λ p. values_of option.now (pieces (map string_bytes words.now)) ≡ p.0.now ∷ values_of option.now (pieces (map string_bytes p.1.now))) }
+{
+    let mut left = words;
+    while let Some((word, rest)) = left.split_first() {
+        let (piece, rest) = first_piece(word.as_str(), rest);
+        if piece.option == option {
+            return Some((piece.value, rest));
+        }
+        left = rest;
+    }
+    None
+}
+
+// How often an option was given; the empty one counts the positional words.
+fn value_given<'a>(words: &'a [String], option: &str) -> Given<'a>
+    ensures { IsGiven result (values_of option.now (pieces (map string_bytes words.now))) }
+{
+    match find(words, option) {
+        None => Given::Never,
+        Some((value, rest)) => match find(rest, option) {
+            None => Given::Once(value),
+            Some(_) => Given::Often,
+        },
+    }
+}
+
+// The name of the image, which is the only positional word.
+fn image_given<'a>(front: &'a [String], back: &'a [String]) -> Option<&'a str>
+    ensures { option_map (λ s. s.now) result ≡ only_name (values_of [] (pieces (map string_bytes front.now)) ++ map string_bytes back.now) }
+{
+    match value_given(front, "") {
+        Given::Never => match back {
+            [image] => file_name(image.as_str()),
+            _ => None,
+        },
+        Given::Once(image) => match back {
+            [] => file_name(image),
+            _ => None,
+        },
+        Given::Often => None,
+    }
+}
+
+fn file_name(word: &str) -> Option<&str>
+    ensures { option_map (λ s. s.now) result ≡ file_name word.now }
+{
+    if word.is_empty() { None } else { Some(word) }
+}
+
+// The options of `recover`, where all that were given are known.
+fn options_given(words: &[String]) -> Option<Options>
+    ensures { result ≡ options_of (pieces (map string_bytes words.now)) }
+{
+    let k = number_given(words, "--k", K, K_LIMIT)?;
+    let budget = number_given(words, "--budget", BUDGET, BUDGET_LIMIT)?;
+    let domain = domain_given(words)?;
+    Some(Options { k, budget, domain })
+}
+
+// The number given to an option, or its default.
+fn number_given(words: &[String], option: &str, default: u32, limit: u32) -> Option<u32>
+    ensures { result ≡ number_given default limit (values_of option.now (pieces (map string_bytes words.now))) }
+{
+    match value_given(words, option) {
+        Given::Never => Some(default),
+        Given::Once(value) => number_within(value.as_bytes(), limit),
+        Given::Often => None,
+    }
+}
+
+fn domain_given(words: &[String]) -> Option<DomainName>
+    ensures { result ≡ domain_given (values_of (codes "--domain") (pieces (map string_bytes words.now))) }
+{
+    match value_given(words, "--domain") {
+        Given::Never => Some(DomainName::Bounded),
+        Given::Once(value) => domain_named(value),
+        Given::Often => None,
+    }
+}
+
+fn domain_named(word: &str) -> Option<DomainName>
+    ensures { result ≡ domain_named word.now }
+{
+    match word {
+        "flat" => Some(DomainName::Flat),
+        "bounded" => Some(DomainName::Bounded),
+        _ => None,
     }
 }
 
@@ -104,7 +291,7 @@ fn listing_words<'a>(image: &'a str, address: &str, count: &str) -> Option<(&'a 
         return None;
     }
     let address = address_of(address.as_bytes())?;
-    let count = count_of(count.as_bytes())?;
+    let count = number_within(count.as_bytes(), COUNT_LIMIT)?;
     Some((image, Task::Decode { address, count }))
 }
 
@@ -169,21 +356,15 @@ fn is_number(word: &[u8]) -> bool
     are_digits(word)
 }
 
-// The number of instructions that a word writes.
-fn count_of(word: &[u8]) -> Option<u32>
-    ensures { result ≡ count_of word.now }
+// The number from 1 to a limit that a word writes.
+fn number_within(word: &[u8], limit: u32) -> Option<u32>
+    ensures { result ≡ number_within limit word.now }
 {
     if !is_number(word) {
         return None;
     }
     match parse_number(word) {
-        Some(n) => {
-            if 1 <= n && n <= COUNT_LIMIT {
-                Some(n)
-            } else {
-                None
-            }
-        }
+        Some(n) => { if 1 <= n && n <= limit { Some(n) } else { None } }
         None => None,
     }
 }
