@@ -48,13 +48,6 @@ impl Block {
         self.write && self.has(a)
     }
 
-    /// Whether its bytes may be written.
-    pub fn may_write(&self) -> bool
-        ensures { result ≡ self.now.write }
-    {
-        self.write
-    }
-
     /// Whether its bytes may be executed.
     pub fn may_execute(&self) -> bool
         ensures { result ≡ self.now.execute }

@@ -18,3 +18,4 @@ pub use cells::Cells;
 pub use registers::Registers;
 pub use running::run_stmts;
 pub use stmt::{Ran, Source, Stmt, Stmts, Test};
+pub use x86_semantics::FlagRule;

@@ -1,33 +1,12 @@
 ghost use Rattle.std.specs.Prelude.{◌≡◌, ◌<◌, ◌+◌, ◌*◌, ◌^◌, ◌*ℤ◌, ◌+ℤ◌, ◌≢◌, pos, false, Some, None};
 ghost use Rattle.bit_words.specs.Width.{bits_of, signed_of};
-ghost use Rattle.x86_semantics.specs.Registers.{EAX, byte_part, part, put_byte_part, upper_register, with_part};
+ghost use Rattle.x86_semantics.specs.Registers.{part, with_part};
 ghost use Rattle.x86_semantics.specs.Products.{dividend, divided, divided_signed, divided_unsigned, signed_dividend, with_long};
 ghost use Rattle.statement_lang.specs.Seen.{where_done};
 
 use crate::Cells;
 use bit_words::{Op, Width, apply};
-
-fn byte_part(r: u8) -> Op
-    ensures { result ≡ byte_part r }
-{
-    if r < 4 { Op::Low8 } else { Op::High8 }
-}
-
-fn put_byte_part(r: u8) -> Op
-    ensures { result ≡ put_byte_part r }
-{
-    if r < 4 { Op::PutLow8 } else { Op::PutHigh8 }
-}
-
-fn upper_register(w: Width) -> u8
-    ensures { result ≡ upper_register w }
-{
-    match w {
-        Width::B8 => 4,
-        Width::B16 => 2,
-        Width::B32 => 2,
-    }
-}
+use x86_semantics::{byte_part, put_byte_part, upper_register};
 
 impl Cells {
     /// A register of a width, by its number.

@@ -1,12 +1,11 @@
 ghost use Rattle.std.specs.Prelude.{◌≡◌, ◌≤◌, ◌+◌, ◌++◌, length};
 ghost use Rattle.arrayvec.specs.ArrayVec.{array_vec_len};
 ghost use Rattle.x86_lifter.specs.Pieces.{base_source, fetching, fetching_register, index_source, keeping, keeping_register, nothing, placing, places, scale_of, address_from};
-ghost use Rattle.x86_semantics.specs.Registers.{byte_part, put_byte_part};
 ghost use Rattle.x86_semantics.specs.FlagRules.{free_of};
 
 use bit_words::{Op, Width};
 use statement_lang::{Source, Stmt, Stmts, Test};
-use x86_semantics::FlagRule;
+use x86_semantics::{FlagRule, byte_part, put_byte_part};
 use x86_syntax::{Address, Operand};
 
 /// Statements appended to others.
@@ -113,18 +112,6 @@ pub fn listed(more: &[Stmt]) -> Stmts
 }
 
 // ---- values; the address of an operand in memory is in the temporary k
-
-fn byte_part(r: u8) -> Op
-    ensures { result ≡ byte_part r }
-{
-    if r < 4 { Op::Low8 } else { Op::High8 }
-}
-
-fn put_byte_part(r: u8) -> Op
-    ensures { result ≡ put_byte_part r }
-{
-    if r < 4 { Op::PutLow8 } else { Op::PutHigh8 }
-}
 
 pub fn copy(to: Source, from: Source) -> Stmt
     ensures { result ≡ Stmt.Copy to from }

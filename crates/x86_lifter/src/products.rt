@@ -1,6 +1,5 @@
 ghost use Rattle.std.specs.Prelude.{◌≡◌, ◌++◌};
 ghost use Rattle.x86_semantics.specs.FlagRules.{status_flags};
-ghost use Rattle.x86_semantics.specs.Registers.{upper_register};
 ghost use Rattle.x86_lifter.specs.Pieces.{places};
 ghost use Rattle.x86_lifter.specs.Lists.{dividing, multiplying, multiplying_long, none};
 
@@ -11,21 +10,10 @@ use crate::pieces::{
 use bit_words::{Flags, Op, Width};
 use bitflags::Flags as _;
 use statement_lang::{Source, Stmt, Stmts};
-use x86_semantics::FlagRule;
+use x86_semantics::{FlagRule, upper_register};
 use x86_syntax::Operand;
 
 const EAX: u8 = 0;
-
-// Where products and dividends have their upper half: AH, DX or EDX.
-fn upper_register(w: Width) -> u8
-    ensures { result ≡ upper_register w }
-{
-    match w {
-        Width::B8 => 4,
-        Width::B16 => 2,
-        Width::B32 => 2,
-    }
-}
 
 /// MUL, IMUL of the accumulator.
 pub fn multiply_long(high: Op, rule: FlagRule, w: Width, from: Operand, next: u32) -> Stmts

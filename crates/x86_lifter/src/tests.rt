@@ -355,13 +355,20 @@ fn start(alloc: Global) -> Result<Cells, Fail> {
 }
 
 fn register_number(name: &str) -> Option<u8> {
-    let names = ["eax", "ecx", "edx", "ebx", "esp", "ebp", "esi", "edi"];
-    let mut r = 0;
-    for known in names {
+    let names = [
+        ("eax", 0),
+        ("ecx", 1),
+        ("edx", 2),
+        ("ebx", 3),
+        ("esp", 4),
+        ("ebp", 5),
+        ("esi", 6),
+        ("edi", 7),
+    ];
+    for (known, r) in names {
         if known == name {
             return Some(r);
         }
-        r += 1;
     }
     None
 }

@@ -8,8 +8,10 @@ mod flag_rule;
 mod meant;
 mod operation;
 mod operations;
+mod parts;
 
 pub use flag_rule::FlagRule;
 pub use meant::is_meant;
 pub use operation::{FlagChange, Looping, Operation, StringKind};
 pub use operations::operation_of;
+pub use parts::{byte_part, put_byte_part, upper_register};
