@@ -1,5 +1,6 @@
 -- The words of the command line after the program's name.
-use Rattle.std.specs.Prelude.{ℕ, ◌≡◌, Bool, false, not, ◌&&◌, ◌||◌, ◌==◌, List, [], ◌∷◌, ◌++◌, Option, None, Some, option_map, option_and_then, nat_le, length, codes, bytes_eq, if◌then◌else◌}
+use Rattle.std.specs.Prelude.{ℕ, Bool, true, false, not, ◌&&◌, ◌||◌, ◌==◌, List, [], ◌∷◌, ◌++◌, Option, None, Some, option_map, option_and_then, nat_le, length, codes, bytes_eq, if◌then◌else◌}
+use Rattle.std.specs.Option.{option_map_or}
 use Rattle.std.specs.List.{list_all, list_any, before_first, after_first}
 use Rattle.std.specs.Str.{str_to_ascii_uppercase}
 use Rattle.std.specs.Str.Parse.{digits_value}
@@ -66,10 +67,10 @@ listing_of _ = None
 abbrev pub decode_of : List (List ℕ) → Option Command
 decode_of words = option_and_then listing_of (positional words)
 
--- words are read in pieces: an option with its value, or a positional word, whose option is the empty one.
+-- words are read in pieces: an option, named with its dashes, and its value, or a positional word, which has no option.
 -- An option that lacks its value has the empty one, which none takes
 pub record Piece : Type 0 where
-  pub option : List ℕ
+  pub option : Option (List ℕ)
   pub value : List ℕ
 
 abbrev pub is_equals : ℕ → Bool
@@ -78,8 +79,8 @@ is_equals c = c == 61
 -- the piece of a word that does not look at the next one: a positional word, or `--x=VALUE`
 abbrev pub piece_alone : List ℕ → Piece
 piece_alone word =
-    if is_option word then record { option = before_first is_equals word; value = after_first is_equals word }
-    else record { option = []; value = word }
+    if is_option word then record { option = Some (before_first is_equals word); value = after_first is_equals word }
+    else record { option = None; value = word }
 
 -- an option without an equals sign has its value in the next word
 abbrev pub takes_next : List ℕ → Bool
@@ -89,19 +90,27 @@ abbrev pub pieces : List (List ℕ) → List Piece
 pieces [] = []
 pieces (word ∷ []) = piece_alone word ∷ []
 pieces (word ∷ next ∷ words) =
-    if takes_next word && not (is_option next) then record { option = word; value = next } ∷ pieces words
+    if takes_next word && not (is_option next) then record { option = Some word; value = next } ∷ pieces words
     else piece_alone word ∷ pieces (next ∷ words)
 
--- what was given to an option, in order; to the empty one the positional words
-abbrev pub values_of : List ℕ → List Piece → List (List ℕ)
+-- whether a piece is of an option, or is positional where none is asked for
+abbrev pub is_same : Option (List ℕ) → Option (List ℕ) → Bool
+is_same None None = true
+is_same None (Some other) = false
+is_same (Some option) None = false
+is_same (Some option) (Some other) = bytes_eq option other
+
+-- what was given to an option, in order, or the positional words
+abbrev pub values_of : Option (List ℕ) → List Piece → List (List ℕ)
 values_of option [] = []
-values_of option (piece ∷ rest) =
-    if bytes_eq piece.option option then piece.value ∷ values_of option rest
-    else values_of option rest
+values_of option (piece ∷ rest) = if is_same piece.option option then piece.value ∷ values_of option rest else values_of option rest
 
 -- the options of `recover`
+abbrev pub is_option_of_recover : List ℕ → Bool
+is_option_of_recover option = bytes_eq option (codes "--k") || bytes_eq option (codes "--budget") || bytes_eq option (codes "--domain")
+
 abbrev pub is_known : Piece → Bool
-is_known piece = bytes_eq piece.option [] || bytes_eq piece.option (codes "--k") || bytes_eq piece.option (codes "--budget") || bytes_eq piece.option (codes "--domain")
+is_known piece = option_map_or is_option_of_recover piece.option true
 
 -- an option is given at most once
 abbrev pub number_given : ℕ → ℕ → List (List ℕ) → Option ℕ
@@ -124,7 +133,7 @@ domain_given (value ∷ next ∷ rest) = None
 abbrev pub options_of : List Piece → Option Options
 options_of given =
     option_and_then (λ k. option_and_then (λ budget. option_map (λ domain. record { k = k; budget = budget; domain = domain })
-    (domain_given (values_of (codes "--domain") given))) (number_given 100000 1000000 (values_of (codes "--budget") given))) (number_given 32 1024 (values_of (codes "--k") given))
+    (domain_given (values_of (Some (codes "--domain")) given))) (number_given 100000 1000000 (values_of (Some (codes "--budget")) given))) (number_given 32 1024 (values_of (Some (codes "--k")) given))
 
 -- exactly one positional word, the name of a file, which is not empty
 abbrev pub file_name : List ℕ → Option (List ℕ)
@@ -138,7 +147,7 @@ only_name (word ∷ next ∷ rest) = None
 -- the pieces before the word `--`, and the words behind it
 abbrev pub recover_with : List Piece → List (List ℕ) → Option Command
 recover_with front back =
-    if list_all is_known front then option_and_then (λ image. option_map (λ options. named_command image (Recover options)) (options_of front)) (only_name (values_of [] front ++ back))
+    if list_all is_known front then option_and_then (λ image. option_map (λ options. named_command image (Recover options)) (options_of front)) (only_name (values_of None front ++ back))
     else None
 
 -- `recover IMAGE` with its options

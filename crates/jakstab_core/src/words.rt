@@ -1,6 +1,6 @@
-ghost use Rattle.std.specs.Prelude.{◌≡◌, ◌≤◌, ◌<◌, ◌+◌, [], ◌∷◌, ◌++◌, length, slice_index_or, map, option_map, string_bytes, codes, MatchOption};
+ghost use Rattle.std.specs.Prelude.{◌≡◌, ◌≤◌, ◌<◌, ◌+◌, [], ◌∷◌, ◌++◌, length, slice_index_or, map, option_copied, option_map, string_bytes, codes, Some, None, MatchOption};
 ghost use Rattle.std.specs.List.{list_all, list_any, before_first, after_first, position_or_len};
-ghost use Rattle.jakstab_core.specs.Words.{named_command, command_of, recover_of, decode_of, listing_of, is_option, is_end_of_options, address_of, number_within, is_digit, is_number, is_known, pieces, values_of, number_given, domain_given, domain_named, options_of, only_name, file_name, takes_next, piece_alone, is_equals};
+ghost use Rattle.jakstab_core.specs.Words.{named_command, command_of, recover_of, decode_of, listing_of, is_option, is_end_of_options, address_of, number_within, is_digit, is_number, is_known, is_same, pieces, values_of, number_given, domain_given, domain_named, options_of, only_name, file_name, takes_next, piece_alone, is_equals};
 ghost use Rattle.jakstab_core.specs.Given.{IsGiven, piece_of};
 
 use crate::task::{DomainName, Options, Task};
@@ -44,14 +44,14 @@ fn recover_words(words: &[String]) -> Option<(&str, Task)>
     Some((image, Task::Recover(options)))
 }
 
-/// An option with its value, or a positional word, whose option is the empty one.
+/// An option with its value, or a positional word, which has no option.
 #[derive(Clone, Copy)]
 struct Piece<'a> {
-    option: &'a str,
+    option: Option<&'a str>,
     value: &'a str,
 }
 
-/// How often an option was given, and its value where it was given once.
+/// How often an option was given, and its value where that is once; or the same of positional words.
 #[derive(Clone, Copy)]
 enum Given<'a> {
     Never,
@@ -71,7 +71,7 @@ fn first_piece<'a>(word: &'a str, rest: &'a [String]) -> (Piece<'a>, &'a [String
                 let value = next.as_str();
                 (
                     Piece {
-                        option: word,
+                        option: Some(word),
                         value,
                     },
                     behind,
@@ -89,14 +89,17 @@ fn piece_alone(word: &str) -> Piece<'_>
 {
     if !is_option(word) {
         return Piece {
-            option: "",
+            option: None,
             value: word,
         };
     }
     match word.split_once('=') {
-        Some((option, value)) => Piece { option, value },
+        Some((option, value)) => Piece {
+            option: Some(option),
+            value,
+        },
         None => Piece {
-            option: word,
+            option: Some(word),
             value: "",
         },
     }
@@ -121,7 +124,7 @@ fn are_known(words: &[String]) -> bool
     let mut left = words;
     while let Some((word, rest)) = left.split_first() {
         let (piece, rest) = first_piece(word.as_str(), rest);
-        if !is_known(piece.option) {
+        if !is_known(piece) {
             return false;
         }
         left = rest;
@@ -129,26 +132,40 @@ fn are_known(words: &[String]) -> bool
     true
 }
 
-fn is_known(option: &str) -> bool
-    ensures { result ≡ is_known (record { option = option.now; value = [] }) }
+// Whether a piece is a positional word or of an option of `recover`.
+fn is_known(piece: Piece<'_>) -> bool
+    ensures { result ≡ is_known (piece_of piece.entry) }
 {
-    match option {
-        "" => true,
-        "--k" => true,
-        "--budget" => true,
-        "--domain" => true,
-        _ => false,
+    match piece.option {
+        None => true,
+        Some("--k") => true,
+        Some("--budget") => true,
+        Some("--domain") => true,
+        Some(_) => false,
     }
 }
 
-// The first value given to an option, and the words behind it.
-fn find<'a>(words: &'a [String], option: &str) -> Option<(&'a str, &'a [String])>
-    ensures { MatchOption result (values_of option.now (pieces (map string_bytes words.now)) ≡ []) (λ p. values_of option.now (pieces (map string_bytes words.now)) ≡ p.0.now ∷ values_of option.now (pieces (map string_bytes p.1.now))) }
+// Whether two pieces are of one option, or both positional.
+fn is_same(option: Option<&str>, other: Option<&str>) -> bool
+    ensures { result ≡ is_same (option_copied option.entry) (option_copied other.entry) }
+{
+    match option {
+        None => other.is_none(),
+        Some(option) => match other {
+            None => false,
+            Some(other) => option == other,
+        },
+    }
+}
+
+// The first value given to an option, or the first positional word, and the words behind it.
+fn find<'a>(words: &'a [String], option: Option<&str>) -> Option<(&'a str, &'a [String])>
+    ensures { MatchOption result (values_of (option_copied option.entry) (pieces (map string_bytes words.now)) ≡ []) (λ p. values_of (option_copied option.entry) (pieces (map string_bytes words.now)) ≡ p.0.now ∷ values_of (option_copied option.entry) (pieces (map string_bytes p.1.now))) }
 {
     let mut left = words;
     while let Some((word, rest)) = left.split_first() {
         let (piece, rest) = first_piece(word.as_str(), rest);
-        if piece.option == option {
+        if is_same(piece.option, option) {
             return Some((piece.value, rest));
         }
         left = rest;
@@ -156,9 +173,9 @@ fn find<'a>(words: &'a [String], option: &str) -> Option<(&'a str, &'a [String])
     None
 }
 
-// How often an option was given; the empty one counts the positional words.
-fn value_given<'a>(words: &'a [String], option: &str) -> Given<'a>
-    ensures { IsGiven result (values_of option.now (pieces (map string_bytes words.now))) }
+// How often an option was given, or how many positional words there are.
+fn value_given<'a>(words: &'a [String], option: Option<&str>) -> Given<'a>
+    ensures { IsGiven result (values_of (option_copied option.entry) (pieces (map string_bytes words.now))) }
 {
     match find(words, option) {
         None => Given::Never,
@@ -171,9 +188,9 @@ fn value_given<'a>(words: &'a [String], option: &str) -> Given<'a>
 
 // The name of the image, which is the only positional word.
 fn image_given<'a>(front: &'a [String], back: &'a [String]) -> Option<&'a str>
-    ensures { option_map (λ s. s.now) result ≡ only_name (values_of [] (pieces (map string_bytes front.now)) ++ map string_bytes back.now) }
+    ensures { option_map (λ s. s.now) result ≡ only_name (values_of None (pieces (map string_bytes front.now)) ++ map string_bytes back.now) }
 {
-    match value_given(front, "") {
+    match value_given(front, None) {
         Given::Never => match back {
             [image] => file_name(image.as_str()),
             _ => None,
@@ -204,9 +221,9 @@ fn options_given(words: &[String]) -> Option<Options>
 
 // The number given to an option, or its default.
 fn number_given(words: &[String], option: &str, default: u32, limit: u32) -> Option<u32>
-    ensures { result ≡ number_given default limit (values_of option.now (pieces (map string_bytes words.now))) }
+    ensures { result ≡ number_given default limit (values_of (Some option.now) (pieces (map string_bytes words.now))) }
 {
-    match value_given(words, option) {
+    match value_given(words, Some(option)) {
         Given::Never => Some(default),
         Given::Once(value) => number_within(value.as_bytes(), limit),
         Given::Often => None,
@@ -214,9 +231,9 @@ fn number_given(words: &[String], option: &str, default: u32, limit: u32) -> Opt
 }
 
 fn domain_given(words: &[String]) -> Option<DomainName>
-    ensures { result ≡ domain_given (values_of (codes "--domain") (pieces (map string_bytes words.now))) }
+    ensures { result ≡ domain_given (values_of (Some (codes "--domain")) (pieces (map string_bytes words.now))) }
 {
-    match value_given(words, "--domain") {
+    match value_given(words, Some("--domain")) {
         Given::Never => Some(DomainName::Bounded),
         Given::Once(value) => domain_named(value),
         Given::Often => None,
