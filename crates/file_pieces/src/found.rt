@@ -1,9 +1,9 @@
-ghost use Rattle.std.specs.Prelude.{◌≡◌, ◌+◌, ◌<◌, ◌^◌, length, map, find, is_some, option_copied, take, nat_le, ◌&&◌, IfSome, IsTrue};
+ghost use Rattle.std.specs.Prelude.{◌≡◌, ◌+◌, ◌<◌, ◌^◌, length, map, find, is_some, option_copied, take, drop, ◌-◌, nat_le, ◌&&◌, IfSome, IsTrue};
 ghost use Rattle.std.specs.List.{list_all};
 ghost use Rattle.std.specs.Option.{option_map};
 ghost use Rattle.memory_map.specs.Map.{range_of};
 ghost use Rattle.memory_map.specs.Name.{is_name, is_name_byte};
-ghost use Rattle.file_pieces.specs.Found.{bytes_at, holds, is_in_one, name_at, passes_end, rest_at, text_of};
+ghost use Rattle.file_pieces.specs.Found.{bytes_at, holds, is_in_one, name_at, passes_end, rest_at, text_of, IsHeld};
 
 use memory_map::{LONGEST_NAME, Segment, Segments};
 
@@ -37,6 +37,23 @@ fn segment_with(list: &[Segment], a: u64, n: u64) -> Option<&Segment>
     None
 }
 
+// The bytes from one of its addresses on.
+fn rest_of(segment: &Segment, a: u64) -> &[u8]
+    requires { IsHeld a 1 (range_of segment.now) }
+    ensures { result.now ≡ drop (a - segment.now.low) segment.now.bytes }
+{
+    &segment.bytes.as_slice()[(a - u64::from(segment.low)) as usize..]
+}
+
+// The bytes at `n` of its addresses.
+fn part_of(segment: &Segment, a: u64, n: u64) -> &[u8]
+    requires { IsHeld a n (range_of segment.now) }
+    ensures { result.now ≡ take n (drop (a - segment.now.low) segment.now.bytes) }
+{
+    let from = (a - u64::from(segment.low)) as usize;
+    &segment.bytes.as_slice()[from..from + n as usize]
+}
+
 /// Whether `n` addresses from one on are all in one segment; none at all are.
 pub fn is_in_one(segments: &Segments, a: u64, n: u64) -> bool
     requires { a + n < 2 ^ 64 }
@@ -54,10 +71,7 @@ pub fn bytes_at(segments: &Segments, a: u64, n: u64) -> Option<&[u8]>
         return Some(&[]);
     }
     match segment_with(segments.as_slice(), a, n) {
-        Some(segment) => {
-            let from = (a - u64::from(segment.low)) as usize;
-            Some(&segment.bytes.as_slice()[from..from + n as usize])
-        }
+        Some(segment) => Some(part_of(segment, a, n)),
         None => None,
     }
 }
@@ -68,7 +82,7 @@ fn rest_at(segments: &Segments, a: u64) -> &[u8]
     ensures { result.now ≡ rest_at (map range_of segments.now) a }
 {
     match segment_with(segments.as_slice(), a, 1) {
-        Some(segment) => &segment.bytes.as_slice()[(a - u64::from(segment.low)) as usize..],
+        Some(segment) => rest_of(segment, a),
         None => &[],
     }
 }
@@ -76,10 +90,12 @@ fn rest_at(segments: &Segments, a: u64) -> &[u8]
 fn text_of(bytes: &[u8]) -> Option<&[u8]>
     ensures { option_copied result ≡ text_of bytes.now }
 {
-    match bytes.iter().position(|b| *b == 0) {
-        Some(end) => Some(&bytes[..end]),
-        None => None,
+    for (i, b) in bytes.iter().enumerate() {
+        if *b == 0 {
+            return Some(&bytes[..i]);
+        }
     }
+    None
 }
 
 fn front(bytes: &[u8], most: usize) -> &[u8]
@@ -121,7 +137,13 @@ pub fn name_at(segments: &Segments, a: u64, most: u64) -> Option<&[u8]>
 {
     let bound = most.min(LONGEST_NAME as u64 + 1);
     match text_of(front(rest_at(segments, a), bound as usize)) {
-        Some(name) if is_name(name) => Some(name),
-        _ => None,
+        Some(name) => {
+            if is_name(name) {
+                Some(name)
+            } else {
+                None
+            }
+        }
+        None => None,
     }
 }
