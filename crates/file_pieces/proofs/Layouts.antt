@@ -136,8 +136,10 @@ module _ (file : List ℕ) (items ps : List Piece) (kept : ps ≡ filter is_mapp
     where
       some : list_all is_mapped ps ≡ true
       some = ap (list_all is_mapped) kept ∙ list_all-filter is_mapped items
+
       laid : map range_of (mapped segments) ≡ layout file items
       laid = ap (map range_of) (mapped-all file segments ps same kept_pieces some) ∙ same ∙ ap (map (range_of_piece file)) kept
+
       by : (r : Result (List Segment) MapFault) → MatchResult r (λ s. (s ≡ mapped segments) × (map_fault (map range_of (mapped segments)) ≡ None)) (λ e. (e ≡ Memory) ⊎ (map_fault (map range_of (mapped segments)) ≡ Some e)) → MatchResult r (λ s. (map range_of s ≡ layout file items) × (map_fault (layout file items) ≡ None)) (λ e. (e ≡ Memory) ⊎ (map_fault (layout file items) ≡ Some e))
       by (Ok s) h = (ap (map range_of) h.0 ∙ laid, same_fault ∙ none)
       by (Err e) (inl h) = inl h

@@ -89,6 +89,7 @@ name_of-bounded bytes most bound h = by (nat_le most 4097) refl
     far e (inr (none, long)) =
         let P : ℕ → Type 0 = λ (k : ℕ). IfSome (text_of (take most bytes)) (λ text. k ≤ length text) in
         ap name_of none ∙ sym (no_name (text_of (take most bytes)) (subst P e long))
+
     by : (t : Bool) → nat_le most 4097 ≡ t → name_of (text_of (take bound bytes)) ≡ name_of (text_of (take most bytes))
     by true e =
         let same : bound ≡ most = omega (arith, h, leb-true most 4097 e) in

@@ -137,13 +137,7 @@ pub fn name_at(segments: &Segments, a: u64, most: u64) -> Option<&[u8]>
 {
     let bound = most.min(LONGEST_NAME as u64 + 1);
     match text_of(front(rest_at(segments, a), bound as usize)) {
-        Some(name) => {
-            if is_name(name) {
-                Some(name)
-            } else {
-                None
-            }
-        }
+        Some(name) => { if is_name(name) { Some(name) } else { None } }
         None => None,
     }
 }

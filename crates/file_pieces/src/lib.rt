@@ -10,3 +10,6 @@ mod piece;
 pub use found::{bytes_at, is_in_one, name_at, passes_end};
 pub use names::{MOST_NAMES, NameFault, Names, SeenNames};
 pub use piece::{Piece, map_pieces};
+
+#[cfg(test)]
+mod tests;

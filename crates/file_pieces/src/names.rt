@@ -1,4 +1,5 @@
-ghost use Rattle.std.specs.Prelude.{◌≡◌, ◌⊎◌, ◌<◌, ◌≤◌, [], false, length, IfOk, IsTrue, MatchResult};
+ghost use Rattle.std.specs.Prelude.{◌≡◌, ◌⊎◌, ◌<◌, ◌≤◌, [], false, true, map, length, IfOk, IsTrue, MatchResult};
+ghost use Rattle.std.specs.List.{list_all};
 ghost use Rattle.memory_map.specs.Name.{is_name};
 ghost use Rattle.file_pieces.specs.Names.{MOST_NAMES, index_of, is_named, with_name};
 
@@ -90,6 +91,20 @@ impl Model for SeenNames {
     ghost invariant = { λ n. AreNames (map (λ v. v.items) n.held.keys) };
 }
 
+fn names_of(alloc: Global, keys: IndexSet<Vec<u8>>) -> Result<Vec<Name>, AllocError>
+    requires { list_all is_name (map (λ v. v.items) keys.keys) ≡ true }
+    ensures { IfOk result (λ names. names.items ≡ map (λ v. v.items) keys.keys) }
+{
+    let mut names = Vec::with_capacity(alloc, keys.len())?;
+    for key in keys {
+        match Name::new(key) {
+            Some(name) => names.push(name)?,
+            None => unreachable!(),
+        }
+    }
+    Ok(names)
+}
+
 impl SeenNames {
     /// No names.
     pub fn new(alloc: Global) -> SeenNames
@@ -103,8 +118,7 @@ impl SeenNames {
     /// The index of a name, which goes last where it was not given before. A refusal changes nothing.
     pub fn index_of(&mut self, alloc: Global, name: &[u8]) -> Result<u32, NameFault>
         requires { IsTrue (is_name name.now) }
-        ensures exact { MatchResult result (λ i. (i ≡ index_of self.old name.now) × (self.new ≡ with_name self.old name.now) × (i < length self.new)) (λ e. (self.new ≡ self.old) × ((e ≡ NameFault.Memory) ⊎ ((e ≡ NameFault.Full) × (is_named self.old name.now ≡ false) × (MOST_NAMES ≤ length self.old)))) }
-        ensures room { IfOk result (λ _. length self.new ≤ MOST_NAMES) }
+        ensures { MatchResult result (λ i. (i ≡ index_of self.old name.now) × (self.new ≡ with_name self.old name.now) × (i < length self.new)) (λ e. (self.new ≡ self.old) × ((e ≡ NameFault.Memory) ⊎ ((e ≡ NameFault.Full) × (is_named self.old name.now ≡ false) × (MOST_NAMES ≤ length self.old)))) }
     {
         match self.held.get_index_of(name) {
             Some(index) => Ok(index as u32),
@@ -117,19 +131,14 @@ impl SeenNames {
         ensures { IfOk result (λ names. names ≡ self) }
     {
         let SeenNames { held } = self;
-        let mut list = Vec::with_capacity(alloc, held.len())?;
-        for name in held {
-            if let Some(name) = Name::new(name) {
-                list.push(name)?;
-            }
-        }
-        Ok(Names { held: list })
+        let held = names_of(alloc, held)?;
+        Ok(Names { held })
     }
 
     fn push(&mut self, alloc: Global, name: &[u8]) -> Result<u32, NameFault>
         requires name { IsTrue (is_name name.now) }
         requires other { is_named self.old name.now ≡ false }
-        ensures exact { MatchResult result (λ i. (i ≡ index_of self.old name.now) × (self.new ≡ with_name self.old name.now) × (i < length self.new)) (λ e. (self.new ≡ self.old) × ((e ≡ NameFault.Memory) ⊎ ((e ≡ NameFault.Full) × (MOST_NAMES ≤ length self.old)))) }
+        ensures { MatchResult result (λ i. (i ≡ index_of self.old name.now) × (self.new ≡ with_name self.old name.now) × (i < length self.new)) (λ e. (self.new ≡ self.old) × ((e ≡ NameFault.Memory) ⊎ ((e ≡ NameFault.Full) × (is_named self.old name.now ≡ false) × (MOST_NAMES ≤ length self.old)))) }
     {
         if self.held.len() >= MOST_NAMES {
             return Err(NameFault::Full);

@@ -23,8 +23,7 @@ loop-first-preserved c =
     let first = extent c.in-Some.first.now in
     let rest = map extent c.in-Some.rest.now in
     let apart = list_all-map (are_apart first) extent c.in-Some.rest.now ∙ sym c.are_apart_from.ensures ∙ c.if-not-are_apart_from.false in
-    let Addressed : List Piece → Type 0 = λ (l : List Piece). All HasAddress l in
-    (
+    let Addressed : List Piece → Type 0 = λ (l : List Piece). All HasAddress l in (
       sym (all_apart-cons first rest ∙ and-true (list_all (are_apart first) rest) (all_apart rest) apart)
           ∙ ap (λ (l : List Piece). all_apart (map extent l)) (sym c.in-Some.ensures.cases.0)
           ∙ c.loop-first.invariant.0,
