@@ -1,8 +1,8 @@
 -- A layout's faults are those of its pieces' extents.
-use Rattle.std.proofs.Common.{ℕ, zero, suc, ◌≡◌, ◌+◌, ◌-◌, ◌<◌, ◌≤◌, Bool, true, false, cond, List, [], ◌∷◌, length, take, drop, map, get_or, Option, Some, None, refl, sym, ap, ◌∙◌, arith, inl, inr, ◌⊎◌, subst, ⊎_elim}
+use Rattle.std.proofs.Common.{ℕ, zero, suc, ◌≡◌, ◌+◌, ◌-◌, ◌≤◌, Bool, true, false, cond, List, [], ◌∷◌, length, take, drop, map, Option, Some, None, refl, sym, ap, ◌∙◌, arith, inl, inr, ◌⊎◌, subst, ⊎_elim}
 use Rattle.std.specs.Prelude.{◌&&◌, ◌||◌, ◌==◌, not, nat_le, nat_lt, All, replicate, filter, Result, Ok, Err, MatchResult}
 use Rattle.std.specs.List.{list_all}
-use Rattle.std.proofs.lemmas.Bool.{leb-true, ltb-false, ne_eqb}
+use Rattle.std.proofs.lemmas.Bool.{ltb-false, ne_eqb}
 use Rattle.std.proofs.lemmas.List.{length-take, length-drop, length-append, length-replicate}
 use Rattle.std.proofs.lemmas.List.Sums.{sum_by-cons}
 use Rattle.std.proofs.lemmas.List.Elements.{All-head, All-tail, All-filter}
@@ -12,7 +12,7 @@ use Rattle.memory_map.specs.declared.segment.Segment.{Segment}
 use Rattle.memory_map.specs.declared.fault.MapFault.{MapFault}
 use Rattle.memory_map.specs.declared.fault.MapFault.TheVariants.{OutOfRange, Memory}
 use Rattle.memory_map.proofs.Faults.{and-parts, map_fault-outside}
-use Rattle.memory_map.proofs.Lists.{all_apart-cons, all_apart-nil}
+use Rattle.memory_map.proofs.Lists.{all_apart-cons}
 use Rattle.file_pieces.specs.Found.{passes_end}
 use Rattle.file_pieces.specs.Layout.{IsPiece, HasAddress, layout, extent, range_of_piece, bytes_of, is_mapped}
 use Rattle.file_pieces.specs.declared.piece.Piece.{Piece}

@@ -1,5 +1,5 @@
 -- Ranges of file bytes and of addresses, and what is found in the segments of an image.
-use Rattle.std.specs.Prelude.{ℕ, ◌≤◌, length, ◌+◌, ◌-◌, ◌==◌, Bool, List, [], ◌∷◌, not, ◌&&◌, ◌||◌, nat_le, nat_lt, find, take, drop, Option, Some, None, if◌then◌else◌, option_and_then}
+use Rattle.std.specs.Prelude.{ℕ, ◌≤◌, ◌+◌, ◌-◌, ◌==◌, Bool, List, [], ◌∷◌, not, ◌&&◌, ◌||◌, nat_le, nat_lt, find, take, drop, Option, Some, None, if◌then◌else◌, option_and_then}
 use Rattle.std.specs.List.{list_any}
 use Rattle.std.specs.Option.{option_map, option_map_or}
 use Rattle.memory_map.specs.Range.{Range, end_of}

@@ -1,4 +1,4 @@
-use Rattle.std.proofs.Common.{◌∙◌, sym, Some, None, map}
+use Rattle.std.proofs.Common.{◌∙◌, Some, None, map}
 use Rattle.memory_map.specs.Map.{range_of}
 use Rattle.file_pieces.proofs.Texts.{name_at-is, name_of-name, name_of-other}
 use Rattle.file_pieces.proofs.found.name_at.Goals as goal

@@ -1,4 +1,4 @@
-use Rattle.std.proofs.Common.{ℕ, ◌<◌, ◌≢◌, arith, get_or, length, sym}
+use Rattle.std.proofs.Common.{arith, sym}
 use Rattle.file_pieces.proofs.Texts.{text_of-found, text_of-none}
 use Rattle.file_pieces.proofs.found.text_of.Goals as goal
 

@@ -1,5 +1,4 @@
-use Rattle.std.proofs.Common.{sym, ◌∙◌, ◌≡◌, true, false, map}
-use Rattle.std.specs.List.{list_all}
+use Rattle.std.proofs.Common.{sym, ◌∙◌, map}
 use Rattle.memory_map.specs.Map.{is_in_user_space}
 use Rattle.memory_map.proofs.Lists.{list_all-map}
 use Rattle.memory_map.proofs.Faults.{map_fault-outside, map_fault-overlap, map_fault-large, map_fault-none}

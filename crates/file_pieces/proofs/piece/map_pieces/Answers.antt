@@ -1,10 +1,10 @@
-use Rattle.std.proofs.Common.{List, ◌≡◌, ◌∙◌, sym, ap, inr, rules, map, subst, true}
-use Rattle.std.specs.Prelude.{All, filter}
+use Rattle.std.proofs.Common.{List, ◌≡◌, ◌∙◌, sym, ap, inr, rules, map}
+use Rattle.std.specs.Prelude.{filter}
 use Rattle.std.specs.List.{list_all}
 use Rattle.std.proofs.lemmas.List.Elements.{filter_from_retain}
 use Rattle.memory_map.specs.Map.{is_in_user_space, map_fault}
 use Rattle.memory_map.proofs.Lists.{list_all-map}
-use Rattle.file_pieces.specs.Layout.{IsPiece, HasAddress, extent, is_mapped, range_of_piece}
+use Rattle.file_pieces.specs.Layout.{extent, is_mapped}
 use Rattle.file_pieces.specs.declared.piece.Piece.{Piece}
 use Rattle.file_pieces.proofs.Layouts.{addresses, answered, inside-no_fault, kept_pieces, refused}
 use Rattle.file_pieces.proofs.piece.map_pieces.Goals as goal
