@@ -1,0 +1,5 @@
+pub mod Lists
+pub mod Sections
+pub mod Loads
+pub mod Lookups
+pub mod Walks
