@@ -3,3 +3,5 @@ pub mod Sections
 pub mod Loads
 pub mod Lookups
 pub mod Walks
+pub mod Kept
+pub mod Files

@@ -97,8 +97,14 @@ are_tables_wrong ranges bias t =
     || is_table_wrong ranges bias t.rel (rel_bytes t)
     || is_table_wrong ranges bias t.jmprel (jmprel_bytes t)
 
+-- whether the dynamic section passes the file's end
+abbrev pub is_section_outside : List ℕ → Bool
+is_section_outside file = option_map_or (is_outside file) (dynamic_header file) false
+
+-- the fault that the tables of a file have, tried over the whole file
+unfoldable pub tables_fault : List Range → ℕ → Tables → Option ElfFault
+tables_fault ranges bias t = if are_tables_wrong ranges bias t then Some ElfFault.Dynamic else None
+
 -- the part of the fault Dynamic that is tried over the whole file
 unfoldable pub dynamic_fault : List ℕ → Option ElfFault
-dynamic_fault file =
-    if option_map_or (is_outside file) (dynamic_header file) false || are_tables_wrong (segments file) (bias_of file) (tables file) then Some ElfFault.Dynamic
-    else None
+dynamic_fault file = if is_section_outside file then Some ElfFault.Dynamic else tables_fault (segments file) (bias_of file) (tables file)

@@ -8,3 +8,4 @@ pub mod Looked
 pub mod Walk
 pub mod WalkedOn
 pub mod ElfFile
+pub mod Shown

@@ -67,11 +67,12 @@ table_entries s address size = entries (unwrap_or (table_at s.ranges s.bias addr
 abbrev pub nothing : Walked
 nothing = record { relocs = []; names = [] }
 
--- the table of DT_REL first, then that of DT_JMPREL
+-- those of the table of DT_REL first, then those of DT_JMPREL
+abbrev pub all_entries : Space → List Entry
+all_entries s = table_entries s s.tables.rel (rel_bytes s.tables) ++ table_entries s s.tables.jmprel (jmprel_bytes s.tables)
+
 unfoldable pub walk : Space → Result Walked ElfFault
-walk s =
-    steps s (Ok nothing)
-    (table_entries s s.tables.rel (rel_bytes s.tables) ++ table_entries s s.tables.jmprel (jmprel_bytes s.tables))
+walk s = steps s (Ok nothing) (all_entries s)
 
 -- what relocations and names keep
 pub record IsKept (ranges : List Range) (w : Walked) : Type 0 where

@@ -4,11 +4,13 @@
 #![tactic(auto)]
 
 mod dynamic;
+mod elf_file;
 mod entry;
 mod fault;
 mod header;
 mod lookup;
 mod program_header;
+mod reader;
 mod reloc;
 mod relocation;
 mod segments;
@@ -16,5 +18,7 @@ mod symbol;
 mod tables;
 mod walk;
 
+pub use elf_file::ElfFile;
 pub use fault::ElfFault;
+pub use reader::read_elf;
 pub use reloc::{ElfReloc, RelocSymbol, Relocs};

@@ -1,7 +1,7 @@
 ghost use Rattle.std.specs.Prelude.{◌≡◌, ◌⊎◌, ◌++◌, ◌∷◌, [], Ok, Err, Some, IsTrue, MatchResult, length};
 ghost use Rattle.memory_map.specs.Name.{is_name};
 ghost use Rattle.elf32_reader.specs.Symbols.{import_name};
-ghost use Rattle.elf32_reader.specs.Walk.{entries, nothing, step, step_import, step_symbol, steps, walk};
+ghost use Rattle.elf32_reader.specs.Walk.{all_entries, entries, nothing, step, step_import, step_symbol, steps, walk};
 
 use crate::entry::{Entry, entry_at};
 use crate::lookup::Lookup;
@@ -125,5 +125,38 @@ impl Walk {
             Some(symbol) => self.step_symbol(alloc, lookup, entry, &symbol),
             None => Err(ElfFault::Dynamic),
         }
+    }
+
+    // The entries of a table, one after another.
+    fn steps(&mut self, alloc: Global, lookup: &Lookup, table: &[u8]) -> Result<(), ElfFault>
+        ensures { MatchResult result (λ _. steps lookup.now (Ok self.old) (entries table.now) ≡ Ok self.new) (λ e. (e ≡ ElfFault.Memory) ⊎ (steps lookup.now (Ok self.old) (entries table.now) ≡ Err e)) }
+    {
+        for i in 0..table.len() / 8 {
+            if let Err(fault) = self.step(alloc, lookup, &entry_at(table, i)) {
+                return Err(fault);
+            }
+        }
+        Ok(())
+    }
+
+    fn both_tables(&mut self, alloc: Global, lookup: &Lookup) -> Result<(), ElfFault>
+        ensures { MatchResult result (λ _. steps lookup.now (Ok self.old) (all_entries lookup.now) ≡ Ok self.new) (λ e. (e ≡ ElfFault.Memory) ⊎ (steps lookup.now (Ok self.old) (all_entries lookup.now) ≡ Err e)) }
+    {
+        if let Err(fault) = self.steps(alloc, lookup, lookup.rel_table()) {
+            return Err(fault);
+        }
+        self.steps(alloc, lookup, lookup.jmprel_table())
+    }
+}
+
+// All relocations of a file.
+#[tactic(auto, unfolding(crate::specs::Walk::walk))]
+pub fn walk_all(alloc: Global, lookup: &Lookup) -> Result<Walk, ElfFault>
+    ensures { MatchResult result (λ w. walk lookup.now ≡ Ok w) (λ e. (e ≡ ElfFault.Memory) ⊎ (walk lookup.now ≡ Err e)) }
+{
+    let mut walk = Walk::new(alloc);
+    match walk.both_tables(alloc, lookup) {
+        Ok(()) => Ok(walk),
+        Err(fault) => Err(fault),
     }
 }
