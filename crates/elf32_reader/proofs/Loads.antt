@@ -56,10 +56,13 @@ module _ (file : List ℕ) (r : Result (List Segment) ElfFault) where
     where
       inside' : list_any (is_outside file) (loads file) ≡ false
       inside' = ap (list_any (is_outside file)) (sym all) ∙ inside
+
       within' : list_any is_file_longer (loads file) ≡ false
       within' = ap (list_any is_file_longer) (sym all) ∙ within
+
       answer' : MatchResult r (λ s. (map range_of s ≡ segments file) × (map_fault (segments file) ≡ None)) (λ e. (e ≡ ElfFault.Memory) ⊎ (option_map elf_fault_of (map_fault (segments file)) ≡ Some e))
       answer' = subst (λ (b : ℕ). Answers b (loads file)) same (subst (λ (l : List ProgramHeader). Answers bias l) all answer)
+
       by : (r : Result (List Segment) ElfFault) → segments_fault file ≡ option_map elf_fault_of (map_fault (segments file)) → MatchResult r (λ s. (map range_of s ≡ segments file) × (map_fault (segments file) ≡ None)) (λ e. (e ≡ ElfFault.Memory) ⊎ (option_map elf_fault_of (map_fault (segments file)) ≡ Some e)) → MatchResult r (λ s. (map range_of s ≡ segments file) × (segments_fault file ≡ None)) (λ e. (e ≡ ElfFault.Memory) ⊎ (segments_fault file ≡ Some e))
       by (Ok s) e h = (h.0, e ∙ ap (option_map elf_fault_of) h.1)
       by (Err f) e (inl h) = inl h

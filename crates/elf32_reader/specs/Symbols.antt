@@ -23,7 +23,7 @@ address_sum a b = (a + b) % 2 ^ 32
 unfoldable pub symbol_at : Space → ℕ → Option Symbol
 symbol_at s index =
     if is_some s.tables.strtab && is_some s.tables.strtab_size then
-        option_and_then (λ a. option_map symbol_of (bytes_at s.ranges (s.bias + address_sum a (SYMENT * index)) SYMENT)) s.tables.symtab
+    option_and_then (λ a. option_map symbol_of (bytes_at s.ranges (s.bias + address_sum a (SYMENT * index)) SYMENT)) s.tables.symtab
     else None
 
 -- the name of a symbol, where it is that of an import, and a 0 ends it within the string table and within one segment

@@ -22,3 +22,6 @@ pub use elf_file::ElfFile;
 pub use fault::ElfFault;
 pub use reader::read_elf;
 pub use reloc::{ElfReloc, RelocSymbol, Relocs};
+
+#[cfg(test)]
+mod tests;

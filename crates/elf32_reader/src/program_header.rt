@@ -79,9 +79,5 @@ pub fn headers(alloc: Global, file: &[u8]) -> Result<Vec<ProgramHeader>, AllocEr
 pub fn loads(alloc: Global, list: &[ProgramHeader]) -> Result<Vec<ProgramHeader>, AllocError>
     ensures { IfOk result (λ v. v.items ≡ filter is_load list.now) }
 {
-    list
-        .iter()
-        .copied()
-        .filter(|h| h.is_load())
-        .collect(alloc)
+    list.iter().copied().filter(|h| h.is_load()).collect(alloc)
 }

@@ -22,7 +22,12 @@ use std::alloc::Global;
 
 // The relocations and their names, where the tables are as they must be.
 #[tactic(auto, unfolding(crate::specs::Dynamic::tables_fault))]
-fn relocations_of(alloc: Global, mapped: &Segments, bias: u32, given: Tables) -> Result<Walk, ElfFault>
+fn relocations_of(
+    alloc: Global,
+    mapped: &Segments,
+    bias: u32,
+    given: Tables,
+) -> Result<Walk, ElfFault>
     ensures { let space : Space = record { ranges = map range_of mapped.now; bias = bias; tables = given } in MatchResult result (λ w. unless (tables_fault (map range_of mapped.now) bias given) (walk space) ≡ Ok w) (λ e. (e ≡ ElfFault.Memory) ⊎ (unless (tables_fault (map range_of mapped.now) bias given) (walk space) ≡ Err e)) }
 {
     let lookup = Lookup::new(mapped, bias, given);
@@ -55,7 +60,12 @@ fn lay_out(alloc: Global, file: &[u8], mapped: Segments, given: Tables) -> Resul
     })
 }
 
-fn read_after_segments(alloc: Global, file: &[u8], list: &[ProgramHeader], mapped: Segments) -> Result<ElfFile, ElfFault>
+fn read_after_segments(
+    alloc: Global,
+    file: &[u8],
+    list: &[ProgramHeader],
+    mapped: Segments,
+) -> Result<ElfFile, ElfFault>
     requires front { EHSIZE ≤ length file.now }
     requires headers { list.now ≡ headers file.now }
     requires segments { map range_of mapped ≡ segments file.now }

@@ -78,7 +78,12 @@ fn elf_fault_of(fault: MapFault) -> ElfFault
     }
 }
 
-fn map_loads(alloc: Global, file: &[u8], bias: u32, loads: &[ProgramHeader]) -> Result<Segments, ElfFault>
+fn map_loads(
+    alloc: Global,
+    file: &[u8],
+    bias: u32,
+    loads: &[ProgramHeader],
+) -> Result<Segments, ElfFault>
     requires inside { list_any (is_outside file.now) loads.now ≡ false }
     requires within { list_any is_file_longer loads.now ≡ false }
     ensures { MatchResult result (λ s. (map range_of s ≡ layout file.now (map (piece_of bias) loads.now)) × (map_fault (layout file.now (map (piece_of bias) loads.now)) ≡ None)) (λ e. (e ≡ ElfFault.Memory) ⊎ (option_map elf_fault_of (map_fault (layout file.now (map (piece_of bias) loads.now))) ≡ Some e)) }
