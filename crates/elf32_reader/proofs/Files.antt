@@ -1,5 +1,5 @@
 -- The faults of the dynamic section.
-use Rattle.std.proofs.Common.{◌≡◌, ℕ, true, false, cond, List, Option, Some, None, refl, ap, ◌∙◌, sym}
+use Rattle.std.proofs.Common.{◌≡◌, ℕ, true, false, cond, List, Some, ap}
 use Rattle.elf32_reader.specs.declared.fault.ElfFault.{ElfFault}
 use Rattle.elf32_reader.specs.Headers.{bias_of}
 use Rattle.elf32_reader.specs.Segments.{segments}

@@ -1,6 +1,6 @@
 -- What a walk leaves lies in one segment, and imports names that it has.
-use Rattle.std.proofs.Common.{ℕ, zero, suc, ◌≡◌, ◌+◌, ◌<◌, ◌≤◌, Bool, true, false, cond, List, [], ◌∷◌, ◌++◌, length, Option, Some, None, refl, sym, ap, ◌∙◌, arith, subst}
-use Rattle.std.specs.Prelude.{◌&&◌, ◌||◌, ◌==◌, not, nat_le, nat_lt, nat_eq, Result, Ok, Err, IfOk}
+use Rattle.std.proofs.Common.{ℕ, ◌≡◌, ◌+◌, ◌<◌, ◌≤◌, Bool, true, false, cond, List, [], ◌∷◌, length, Option, Some, None, refl, sym, ap, ◌∙◌, arith, subst}
+use Rattle.std.specs.Prelude.{◌&&◌, ◌||◌, ◌==◌, not, nat_le, nat_eq, Result, Ok, Err}
 use Rattle.std.specs.List.{list_all, list_any, position_or_len}
 use Rattle.std.specs.Cmp.Lexicographic.{pointwise}
 use Rattle.std.proofs.lemmas.Bool.{lt-ltb, ltb-true}
@@ -16,10 +16,15 @@ use Rattle.elf32_reader.specs.declared.symbol.Symbol.{Symbol}
 use Rattle.elf32_reader.specs.declared.reloc.ElfReloc.{ElfReloc}
 use Rattle.elf32_reader.specs.declared.reloc.RelocSymbol.{RelocSymbol}
 use Rattle.elf32_reader.specs.declared.reloc.RelocSymbol.TheVariants.{Value, Import, Weak, Unset}
-use Rattle.elf32_reader.specs.Symbols.{Space, import_name, imported, is_undefined, is_weak, own_value, address_sum}
+use Rattle.elf32_reader.specs.Symbols.{Space, import_name, imported, is_undefined, is_weak, address_sum}
 use Rattle.elf32_reader.specs.Relocations.{NONE, RELATIVE, kind_of, uses_value, place_of, size_of, is_import, own_symbol, reloc_of, is_inside, is_name_below, has_name_below}
-use Rattle.elf32_reader.specs.Walk.{all_entries, nothing, Walked, walk, walked_on, step, step_after, step_import, step_symbol, steps, symbol_for, IsKept}
+use Rattle.elf32_reader.specs.Walk.{all_entries, nothing, Walked, walk, walked_on, step, step_import, step_symbol, steps, symbol_for}
 use Rattle.elf32_reader.specs.ElfFile.{unless}
+
+-- what relocations and names keep
+pub record IsKept (ranges : List Range) (w : Walked) : Type 0 where
+  pub inside : list_all (is_inside ranges) w.relocs ≡ true
+  pub named : list_all (has_name_below (length w.names)) w.relocs ≡ true
 
 -- an index below one count is below a greater one
 below_more : (a b : ℕ) (m : RelocSymbol) → a ≤ b → is_name_below a m ≡ true → is_name_below b m ≡ true

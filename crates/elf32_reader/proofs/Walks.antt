@@ -1,23 +1,21 @@
 -- The walk, step by step.
-use Rattle.std.proofs.Common.{ℕ, zero, suc, ◌≡◌, ◌⊎◌, ◌+◌, ◌-◌, ◌<◌, ◌≤◌, inl, inr, Bool, true, false, cond, List, [], ◌∷◌, ◌++◌, length, map, Option, Some, None, refl, sym, ap, ◌∙◌, arith, subst}
-use Rattle.std.specs.Prelude.{◌&&◌, not, fold, nat_le, nat_lt, unwrap_or, Result, Ok, Err, MatchResult}
-use Rattle.std.specs.List.{list_all, range_with_len}
-use Rattle.std.proofs.lemmas.Bool.{leb-true, lt-ltb, ltb-true}
+use Rattle.std.proofs.Common.{ℕ, suc, ◌≡◌, ◌⊎◌, ◌+◌, ◌-◌, ◌<◌, ◌≤◌, inl, inr, Bool, true, false, cond, List, [], ◌∷◌, ◌++◌, length, map, Some, refl, sym, ap, ◌∙◌, arith, subst}
+use Rattle.std.specs.Prelude.{◌&&◌, not, nat_le, unwrap_or, Result, Ok, Err, MatchResult}
+use Rattle.std.specs.List.{range_with_len}
+use Rattle.std.proofs.lemmas.Bool.{leb-true}
 use Rattle.std.proofs.lemmas.List.{length-append}
 use Rattle.std.proofs.lemmas.List.Sums.{fold-append}
-use Rattle.memory_map.specs.Range.{Range}
-use Rattle.file_pieces.specs.Found.{is_in_one}
 use Rattle.file_pieces.specs.Names.{MOST_NAMES, index_of, is_named, with_name}
-use Rattle.file_pieces.proofs.NameLists.{with_name-old, with_name-new}
+use Rattle.file_pieces.proofs.NameLists.{with_name-new}
 use Rattle.elf32_reader.specs.declared.fault.ElfFault.{ElfFault}
 use Rattle.elf32_reader.specs.declared.entry.Entry.{Entry}
 use Rattle.elf32_reader.specs.declared.symbol.Symbol.{Symbol}
 use Rattle.elf32_reader.specs.declared.reloc.ElfReloc.{ElfReloc}
 use Rattle.elf32_reader.specs.declared.reloc.RelocSymbol.{RelocSymbol}
 use Rattle.elf32_reader.specs.Symbols.{Space, imported}
-use Rattle.elf32_reader.specs.Relocations.{reloc_of, is_inside, has_name_below}
+use Rattle.elf32_reader.specs.Relocations.{reloc_of}
 use Rattle.elf32_reader.specs.Dynamic.{table_at, rel_bytes, jmprel_bytes}
-use Rattle.elf32_reader.specs.Walk.{all_entries, entries, Walked, walked_on, step, step_after, step_import, step_symbol, steps, symbol_for, IsKept}
+use Rattle.elf32_reader.specs.Walk.{all_entries, entries, Walked, walked_on, step, step_after, step_import, steps}
 
 -- a name that finds a place is not one too many
 not_full : (names : List (List ℕ)) (name : List ℕ) → length (with_name names name) ≤ MOST_NAMES → (not (is_named names name) && nat_le MOST_NAMES (length names)) ≡ false

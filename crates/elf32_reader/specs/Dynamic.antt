@@ -1,9 +1,9 @@
 -- The dynamic section, and the tables that it names.
-use Rattle.std.specs.Prelude.{ℕ, zero, suc, ◌+◌, ◌*◌, ◌/◌, ◌%◌, Bool, false, List, length, not, ◌&&◌, ◌||◌, ◌==◌, nat_lt, find, is_none, unwrap_or, if◌then◌else◌, Option, Some, None, option_and_then}
+use Rattle.std.specs.Prelude.{ℕ, zero, suc, ◌+◌, ◌/◌, ◌%◌, Bool, false, List, not, ◌&&◌, ◌||◌, ◌==◌, nat_lt, find, is_none, unwrap_or, if◌then◌else◌, Option, Some, None, option_and_then}
 use Rattle.std.specs.Option.{option_map_or}
 use Rattle.memory_map.specs.FileBytes.{word_at}
 use Rattle.memory_map.specs.Range.{Range}
-use Rattle.file_pieces.specs.Found.{passes_end, bytes_at}
+use Rattle.file_pieces.specs.Found.{bytes_at}
 use Rattle.elf32_reader.specs.declared.fault.ElfFault.{ElfFault}
 use Rattle.elf32_reader.specs.declared.program_header.ProgramHeader.{ProgramHeader}
 use Rattle.elf32_reader.specs.declared.tables.Tables.{Tables}

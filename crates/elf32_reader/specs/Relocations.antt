@@ -1,5 +1,5 @@
 -- The relocations of the Intel386 (System V ABI, Intel386 supplement, chapter 4, "Relocation").
-use Rattle.std.specs.Prelude.{ℕ, ◌+◌, ◌-◌, ◌/◌, ◌%◌, ◌^◌, Bool, true, List, ◌&&◌, ◌||◌, ◌==◌, nat_lt, if◌then◌else◌}
+use Rattle.std.specs.Prelude.{ℕ, ◌-◌, ◌/◌, ◌%◌, ◌^◌, Bool, true, List, ◌&&◌, ◌||◌, ◌==◌, nat_lt, if◌then◌else◌}
 use Rattle.memory_map.specs.Range.{Range}
 use Rattle.file_pieces.specs.Found.{is_in_one}
 use Rattle.elf32_reader.specs.declared.entry.Entry.{Entry}

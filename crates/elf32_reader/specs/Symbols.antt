@@ -1,5 +1,5 @@
 -- Symbols and their names, as relocations use them.
-use Rattle.std.specs.Prelude.{ℕ, ◌+◌, ◌-◌, ◌*◌, ◌/◌, ◌%◌, ◌^◌, Bool, List, not, ◌&&◌, ◌||◌, ◌==◌, nat_lt, nat_le, is_some, unwrap_or, if◌then◌else◌, Option, Some, None, option_and_then}
+use Rattle.std.specs.Prelude.{ℕ, ◌+◌, ◌-◌, ◌*◌, ◌/◌, ◌%◌, ◌^◌, Bool, List, ◌&&◌, ◌||◌, ◌==◌, nat_le, is_some, unwrap_or, if◌then◌else◌, Option, None, option_and_then}
 use Rattle.std.specs.Option.{option_map}
 use Rattle.memory_map.specs.Range.{Range}
 use Rattle.file_pieces.specs.Found.{bytes_at, name_at}

@@ -1,20 +1,18 @@
 -- The walk of the relocations, each tried for the faults that it can have.
-use Rattle.std.specs.Prelude.{◌≡◌, ℕ, ◌+◌, ◌/◌, Bool, true, List, [], ◌∷◌, ◌++◌, length, map, fold, not, ◌&&◌, ◌==◌, nat_le, unwrap_or, if◌then◌else◌, Option, Some, None, Result, Ok, Err}
-use Rattle.std.specs.List.{list_all, range_with_len}
+use Rattle.std.specs.Prelude.{ℕ, ◌+◌, ◌/◌, List, [], ◌∷◌, ◌++◌, length, map, fold, not, ◌&&◌, ◌==◌, nat_le, unwrap_or, if◌then◌else◌, Option, Some, None, Result, Ok, Err}
+use Rattle.std.specs.List.{range_with_len}
 use Rattle.file_pieces.specs.Found.{is_in_one}
 use Rattle.file_pieces.specs.Names.{MOST_NAMES, index_of, is_named, with_name}
-use Rattle.memory_map.specs.Range.{Range}
 use Rattle.elf32_reader.specs.declared.fault.ElfFault.{ElfFault}
 use Rattle.elf32_reader.specs.declared.fault.ElfFault.TheVariants.{Dynamic, RelocOutside, Name, ManyImports}
 use Rattle.elf32_reader.specs.declared.entry.Entry.{Entry}
 use Rattle.elf32_reader.specs.declared.symbol.Symbol.{Symbol}
-use Rattle.elf32_reader.specs.declared.tables.Tables.{Tables}
 use Rattle.elf32_reader.specs.declared.reloc.ElfReloc.{ElfReloc}
 use Rattle.elf32_reader.specs.declared.reloc.RelocSymbol.{RelocSymbol}
 use Rattle.elf32_reader.specs.Fields.{entry_at}
 use Rattle.elf32_reader.specs.Dynamic.{table_at, rel_bytes, jmprel_bytes}
 use Rattle.elf32_reader.specs.Symbols.{Space, symbol_at, import_name, imported}
-use Rattle.elf32_reader.specs.Relocations.{NONE, kind_of, index_of_symbol, needs_symbol, place_of, size_of, is_import, own_symbol, reloc_of, is_inside, has_name_below}
+use Rattle.elf32_reader.specs.Relocations.{NONE, kind_of, index_of_symbol, needs_symbol, place_of, size_of, is_import, own_symbol, reloc_of}
 
 -- what is read so far: relocations, and the imported names in first-seen order
 pub record Walked : Type 0 where
@@ -46,6 +44,7 @@ no_symbol = record { name = 0; value = 0; size = 0; info = 0; section = 0 }
 abbrev pub symbol_for : Space → Entry → Option Symbol
 symbol_for s e = if needs_symbol (kind_of e) then symbol_at s (index_of_symbol e) else Some no_symbol
 
+-- one entry: R_386_NONE changes nothing, and each other is tried for its symbol, for the range that it changes, for its name and for the count of names
 unfoldable pub step : Space → Walked → Entry → Result Walked ElfFault
 step s w e = if kind_of e == NONE then Ok w else step_symbol s w e (symbol_for s e)
 
@@ -73,8 +72,3 @@ all_entries s = table_entries s s.tables.rel (rel_bytes s.tables) ++ table_entri
 
 unfoldable pub walk : Space → Result Walked ElfFault
 walk s = steps s (Ok nothing) (all_entries s)
-
--- what relocations and names keep
-pub record IsKept (ranges : List Range) (w : Walked) : Type 0 where
-  pub inside : list_all (is_inside ranges) w.relocs ≡ true
-  pub named : list_all (has_name_below (length w.names)) w.relocs ≡ true

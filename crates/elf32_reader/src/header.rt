@@ -1,4 +1,4 @@
-ghost use Rattle.std.specs.Prelude.{◌≡◌, ◌≤◌, ◌*◌, ◌+◌, IfNone, IsTrue, length, nat_lt, not, ◌==◌, ◌&&◌, ◌||◌};
+ghost use Rattle.std.specs.Prelude.{◌≡◌, ◌≤◌, ◌*◌, IfNone, IsTrue, length, nat_lt, not, ◌==◌, ◌&&◌, ◌||◌};
 ghost use Rattle.file_pieces.specs.Found.{passes_end};
 ghost use Rattle.elf32_reader.specs.Fields.{EHSIZE, PHENTSIZE, has_elf_magic, ei_class, ei_data, e_type, e_machine, e_phoff, e_phentsize, e_phnum, e_entry};
 ghost use Rattle.elf32_reader.specs.Headers.{HasHeaders, header_fault, is_dynamic, bias_of};

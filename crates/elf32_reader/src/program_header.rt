@@ -1,5 +1,5 @@
 ghost use Rattle.std.specs.Prelude.{◌≡◌, ◌+◌, ◌*◌, ◌≤◌, ◌<◌, length, IfOk, filter};
-ghost use Rattle.elf32_reader.specs.Fields.{PHENTSIZE, program_header_at, e_phoff, e_phnum};
+ghost use Rattle.elf32_reader.specs.Fields.{PHENTSIZE, program_header_at, e_phnum};
 ghost use Rattle.elf32_reader.specs.Headers.{HasHeaders, header_at, headers, is_load};
 ghost use Rattle.elf32_reader.specs.Dynamic.{is_dynamic_section};
 

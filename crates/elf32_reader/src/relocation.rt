@@ -1,5 +1,5 @@
 ghost use Rattle.std.specs.Prelude.{◌≡◌, ◌<◌, ◌^◌};
-ghost use Rattle.elf32_reader.specs.Symbols.{address_sum, has_import_type, imported, is_undefined, own_value};
+ghost use Rattle.elf32_reader.specs.Symbols.{has_import_type, imported, is_undefined, own_value};
 ghost use Rattle.elf32_reader.specs.Relocations.{addend, adds_old, index_of_symbol, is_import, kind_of, needs_symbol, own_symbol, place_of, reloc_of, size_of, uses_value};
 
 use crate::entry::Entry;

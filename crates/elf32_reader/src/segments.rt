@@ -1,11 +1,11 @@
-ghost use Rattle.std.specs.Prelude.{◌≡◌, ◌⊎◌, ◌+◌, ◌<◌, ◌≤◌, ◌^◌, ◌==◌, bit_and, length, map, IfOk, MatchResult, OnOk, All, Some, None, false, if◌then◌else◌};
+ghost use Rattle.std.specs.Prelude.{◌≡◌, ◌⊎◌, ◌+◌, ◌<◌, ◌≤◌, ◌==◌, length, map, IfOk, MatchResult, All, Some, None, false};
 ghost use Rattle.std.specs.List.{list_any};
 ghost use Rattle.std.specs.Option.{option_map};
 ghost use Rattle.memory_map.specs.Map.{range_of, map_fault};
 ghost use Rattle.file_pieces.specs.Layout.{HasAddress, layout};
 ghost use Rattle.elf32_reader.specs.Fields.{EHSIZE};
-ghost use Rattle.elf32_reader.specs.Headers.{HasHeaders, bias_of, headers, loads};
-ghost use Rattle.elf32_reader.specs.Segments.{elf_fault_of, has_flag, is_file_longer, is_outside, perm_of, piece_of, pieces, segments, segments_fault};
+ghost use Rattle.elf32_reader.specs.Headers.{bias_of, headers, loads};
+ghost use Rattle.elf32_reader.specs.Segments.{elf_fault_of, is_file_longer, is_outside, perm_of, piece_of, pieces, segments, segments_fault};
 
 use crate::ElfFault;
 use crate::header::bias_of;

@@ -1,4 +1,4 @@
-ghost use Rattle.std.specs.Prelude.{◌≡◌, ◌⊎◌, ◌++◌, ◌∷◌, [], Ok, Err, Some, IsTrue, MatchResult, length};
+ghost use Rattle.std.specs.Prelude.{◌≡◌, ◌⊎◌, ◌++◌, ◌∷◌, [], Ok, Err, Some, IsTrue, MatchResult};
 ghost use Rattle.memory_map.specs.Name.{is_name};
 ghost use Rattle.elf32_reader.specs.Symbols.{import_name};
 ghost use Rattle.elf32_reader.specs.Walk.{all_entries, entries, nothing, step, step_import, step_symbol, steps, walk};

@@ -1,5 +1,4 @@
 use Rattle.std.proofs.Common.{◌∙◌}
-use Rattle.elf32_reader.specs.Dynamic.{entry_count}
 use Rattle.elf32_reader.proofs.Sections.{entry_count_none, tables_none}
 use Rattle.elf32_reader.proofs.dynamic.tables_of.Goals as goal
 

@@ -1,4 +1,4 @@
-use Rattle.std.proofs.Common.{◌∙◌, ap, sym, ◌≡◌, true, false, Ok, Err, inr, Option}
+use Rattle.std.proofs.Common.{◌∙◌, ap, sym, false, inr, Option}
 use Rattle.std.specs.Prelude.{find}
 use Rattle.std.specs.Option.{option_map_or}
 use Rattle.elf32_reader.specs.declared.program_header.ProgramHeader.{ProgramHeader}

@@ -1,4 +1,4 @@
-use Rattle.std.proofs.Common.{arith, sym, length}
+use Rattle.std.proofs.Common.{arith, sym}
 use Rattle.elf32_reader.proofs.Lookups.{length-bytes_at}
 use Rattle.elf32_reader.proofs.lookup.Lookup.symbol_in.Goals as goal
 

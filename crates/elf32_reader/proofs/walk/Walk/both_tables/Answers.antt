@@ -1,5 +1,4 @@
-use Rattle.std.proofs.Common.{◌∙◌, ap, sym, Ok, Err}
-use Rattle.elf32_reader.specs.Walk.{all_entries, entries, steps}
+use Rattle.elf32_reader.specs.Walk.{steps}
 use Rattle.elf32_reader.proofs.Walks.{first_fault, second_table}
 use Rattle.elf32_reader.proofs.walk.Walk.both_tables.Goals as goal
 

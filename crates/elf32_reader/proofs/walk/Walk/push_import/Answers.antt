@@ -1,4 +1,4 @@
-use Rattle.std.proofs.Common.{Some, Ok, Err, ◌≡◌, ◌++◌, ◌∷◌, []}
+use Rattle.std.proofs.Common.{Some, Err, ◌≡◌}
 use Rattle.elf32_reader.specs.Walk.{step_import}
 use Rattle.elf32_reader.proofs.Walks.{imported_name, match_push}
 use Rattle.elf32_reader.proofs.walk.Walk.push_import.Goals as goal

@@ -1,9 +1,6 @@
-use Rattle.std.proofs.Common.{◌∙◌, ◌-◌, ◌+◌, ◌/◌, ap, sym, arith, length, map, Ok, Err}
-use Rattle.std.specs.Prelude.{Result}
-use Rattle.std.specs.List.{range_with_len}
+use Rattle.std.proofs.Common.{◌∙◌, ◌-◌, ◌/◌, arith, length, Ok}
 use Rattle.elf32_reader.specs.Fields.{entry_at}
-use Rattle.elf32_reader.specs.Walk.{Walked, entries, step, steps}
-use Rattle.elf32_reader.specs.declared.fault.ElfFault.{ElfFault}
+use Rattle.elf32_reader.specs.Walk.{entries, step, steps}
 use Rattle.elf32_reader.proofs.Walks.{step_fault, step_done, steps-none}
 use Rattle.elf32_reader.proofs.walk.Walk.steps.Goals as goal
 
