@@ -1,0 +1,11 @@
+pub mod Fields
+pub mod Headers
+pub mod Segments
+pub mod Dynamic
+pub mod Symbols
+pub mod Relocations
+pub mod Looked
+pub mod Walk
+pub mod WalkedOn
+pub mod ElfFile
+pub mod Shown
