@@ -42,9 +42,9 @@ impl NameTable {
 
     /// The index of a name, which goes to the end where it is not there yet. After want of memory the names are those before.
     pub fn place_of(&mut self, name: Name) -> Result<usize, AllocError>
-        ensures index { IfOk result (λ i. i ≡ index_of name self.old) }
+        ensures index { IfOk result (λ i. i ≡ index_of self.old name) }
         ensures within { IfOk result (λ i. i < length self.new) }
-        ensures names { OnOk result (self.new ≡ with_name name self.old) }
+        ensures names { OnOk result (self.new ≡ with_name self.old name) }
         ensures unchanged { OnErr result (self.new ≡ self.old) }
     {
         let (index, _) = self.held.insert_full(Key::new(name))?;
