@@ -2,6 +2,7 @@
 use Rattle.std.proofs.Common.{ℕ, zero, suc, ◌≡◌, ◌≢◌, ◌+◌, Bool, true, false, cond, List, Option, Some, None, Result, Ok, Err, refl, sym, ap, ◌∙◌, arith}
 use Rattle.std.specs.Prelude.{◌==◌}
 use Rattle.std.specs.Option.{option_map}
+use Rattle.std.proofs.lemmas.Bool.{ne_eqb}
 use Rattle.memory_map.specs.FileBytes.{word_at}
 use Rattle.memory_map.specs.Range.{Range}
 use Rattle.file_pieces.specs.Found.{bytes_at}
@@ -24,10 +25,6 @@ module _ {X S : Type 0} (step : X → S → Result S PeFault) (table : Entries X
   each-fails x rest fault h k = ap (λ t. each_entry step t state) h ∙ ap (λ r. and_then r (λ n. each_entry step rest n)) k
 
 
-nonzero : (n : ℕ) → n ≢ 0 → (n == 0) ≡ false
-nonzero zero h = absurd (h refl)
-nonzero (suc n) h = refl
-
 -- what is read at the front of thunk words
 thunk-none : (o : Option (List ℕ)) (slot : ℕ) (rest : Entries Thunk) → option_map (λ bytes. word_at bytes 0) o ≡ None → entry_before (option_map (thunk_of slot) o) rest ≡ broken
 thunk-none None slot rest h = refl
@@ -44,7 +41,7 @@ thunk-word None slot rest w h z = cc
 thunk-word (Some bytes) slot rest w h z =
     let e : word_at bytes 0 ≡ w = cc in
     ap (λ n. entry_before (Some (cond (n == 0) None (Some (record { word = n; slot = slot })))) rest) e
-    ∙ ap (λ t. entry_before (Some (cond t None (Some (record { word = w; slot = slot })))) rest) (nonzero w z)
+    ∙ ap (λ t. entry_before (Some (cond t None (Some (record { word = w; slot = slot })))) rest) (ne_eqb w 0 z)
 
 pub thunks-none : (ranges : List Range) (n at slot : ℕ) → None ≡ option_map (λ bytes. word_at bytes 0) (bytes_at ranges at 4) → thunks ranges n at slot ≡ broken
 unfolding thunks

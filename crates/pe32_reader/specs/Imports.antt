@@ -8,7 +8,7 @@ use Rattle.memory_map.specs.Range.{Range}
 use Rattle.memory_map.specs.Image.{EXIT_PLACE}
 use Rattle.memory_map.specs.Name.{is_name}
 use Rattle.file_pieces.specs.Found.{bytes_at, is_in_one, name_at}
-use Rattle.import_names.specs.Table.{index_of, with_name}
+use Rattle.file_pieces.specs.Names.{index_of, with_name}
 use Rattle.pe_headers.specs.declared.fault.PeFault.{PeFault}
 use Rattle.pe_headers.specs.declared.fault.PeFault.TheVariants.{Imports, Name, ManyImports}
 use Rattle.pe32_reader.specs.declared.descriptor.Descriptor.{Descriptor}

@@ -5,7 +5,7 @@ ghost use Rattle.pe32_reader.specs.Walk.{IsSome};
 
 use crate::imports::imports_of;
 use crate::slots::{Slot, with_slots};
-use import_names::Names;
+use file_pieces::Names;
 use memory_map::{MapFault, Segments};
 use pe_headers::{PeFault, entry, image_base, import_directory, map_file};
 use std::alloc::{AllocError, Global};

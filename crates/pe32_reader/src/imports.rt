@@ -2,34 +2,34 @@ ghost use Rattle.std.specs.Prelude.{◌≡◌, ◌⊎◌, ◌≤◌, ◌<◌, �
 ghost use Rattle.memory_map.specs.Map.{range_of};
 ghost use Rattle.memory_map.specs.Name.{is_name};
 ghost use Rattle.file_pieces.specs.Found.{is_in_one, name_at};
+ghost use Rattle.file_pieces.specs.Names.{index_of, with_name};
 ghost use Rattle.pe32_reader.specs.Imports.{address_from, descriptor_step, descriptors, each_entry, import_place, imports_of, library_thunks, nothing, thunk_step, thunks, with_import, with_some_name, MOST_DESCRIPTORS, NAME_ROOM, TOO_MANY_THUNKS};
 ghost use Rattle.pe32_reader.specs.Walk.{seen_by, HasSlots};
 
 use crate::descriptor::{DESCRIPTOR_SIZE, Descriptor, address_from, descriptor_at, word_in};
-use crate::names::{NAME_ROOM, import_name};
+use crate::names::{NAME_BYTES, import_name};
 use crate::slots::{Slot, slot_address};
-use file_pieces::name_at;
-use import_names::NameTable;
+use file_pieces::{NameFault, SeenNames, name_at};
 use memory_map::{Name, Segments, USER_END};
 use pe_headers::PeFault;
 use std::alloc::{AllocError, Global};
 
-const TOO_MANY_THUNKS: u64 = 65_536;
+const THUNK_ROUNDS: u64 = 65_536;
 
-const MOST_DESCRIPTORS: u64 = 214_748_365;
+const DESCRIPTOR_ROUNDS: u64 = 214_748_365;
 
 /// What is imported so far: names in first-seen order, and slots with the places that they are to receive.
 #[derive(Drop)]
 pub struct Imported {
-    pub names: NameTable,
+    pub names: SeenNames,
     pub slots: Vec<Slot>,
 }
 
-fn import_place(index: usize) -> u32
+fn import_place(index: u32) -> u32
     requires { index < 65535 }
     ensures { result ≡ import_place index }
 {
-    USER_END + 16 + 16 * index as u32
+    USER_END + 16 + 16 * index
 }
 
 impl Imported {
@@ -38,19 +38,36 @@ impl Imported {
         ensures few { HasSlots result }
     {
         Imported {
-            names: NameTable::new(alloc),
+            names: SeenNames::new(alloc),
             slots: Vec::new(alloc),
         }
     }
 
+    // The index of a name among those so far, to which it goes.
+    fn index_of(&mut self, alloc: Global, name: &Name) -> Result<u32, AllocError>
+        requires { length self.old.names < 65535 }
+        ensures index { IfOk result (λ i. i ≡ index_of self.old.names name.now) }
+        ensures names { OnOk result (self.new.names ≡ with_name self.old.names name.now) }
+        ensures within { IfOk result (λ i. i < length self.new.names) }
+        ensures slots { self.new.slots ≡ self.old.slots }
+    {
+        match self.names.index_of(alloc, name.as_slice()) {
+            Ok(index) => Ok(index),
+            Err(fault) => match fault {
+                NameFault::Memory => Err(AllocError),
+                NameFault::Full => unreachable!(),
+            },
+        }
+    }
+
     // One more import.
-    fn add(&mut self, name: Name, at: u32) -> Result<(), AllocError>
+    fn add(&mut self, alloc: Global, name: &Name, at: u32) -> Result<(), AllocError>
         requires slots { HasSlots self.old }
         requires room { length self.old.slots.items < 65535 }
-        ensures seen { OnOk result (seen_by self.new ≡ with_import name at (seen_by self.old)) }
+        ensures seen { OnOk result (seen_by self.new ≡ with_import name.now at (seen_by self.old)) }
         ensures few { OnOk result (HasSlots self.new) }
     {
-        let index = self.names.place_of(name)?;
+        let index = self.index_of(alloc, name)?;
         let place = import_place(index);
         self.slots.push(Slot { at, place })?;
         Ok(())
@@ -71,7 +88,7 @@ impl Imported {
         ensures exact { MatchResult result (λ _. thunk_step (map range_of segments.now) base library.now (record { word = word; slot = slot }) (seen_by self.old) ≡ Ok (seen_by self.new)) (λ e. (e ≡ PeFault.Memory) ⊎ (thunk_step (map range_of segments.now) base library.now (record { word = word; slot = slot }) (seen_by self.old) ≡ Err e)) }
         ensures few { OnOk result (HasSlots self.new) }
     {
-        if self.slots.len() as u64 + 1 >= TOO_MANY_THUNKS {
+        if self.slots.len() as u64 + 1 >= THUNK_ROUNDS {
             return Err(PeFault::ManyImports);
         }
         match import_name(alloc, segments, base, library, word)? {
@@ -80,7 +97,7 @@ impl Imported {
                 let Some(at) = slot_address(segments, slot) else {
                     return Err(PeFault::Imports);
                 };
-                self.add(name, at)?;
+                self.add(alloc, &name, at)?;
                 Ok(())
             }
         }
@@ -100,7 +117,7 @@ impl Imported {
         ensures exact { MatchResult result (λ _. each_entry (thunk_step (map range_of segments.now) base library.now) (thunks (map range_of segments.now) TOO_MANY_THUNKS list slots) (seen_by self.old) ≡ Ok (seen_by self.new)) (λ e. (e ≡ PeFault.Memory) ⊎ (each_entry (thunk_step (map range_of segments.now) base library.now) (thunks (map range_of segments.now) TOO_MANY_THUNKS list slots) (seen_by self.old) ≡ Err e)) }
         ensures few { OnOk result (HasSlots self.new) }
     {
-        for i in 0..TOO_MANY_THUNKS {
+        for i in 0..THUNK_ROUNDS {
             match word_in(segments, u64::from(list) + 4 * i) {
                 None => return Err(PeFault::Imports),
                 Some(0) => return Ok(()),
@@ -126,7 +143,7 @@ impl Imported {
         ensures few { OnOk result (HasSlots self.new) }
     {
         let at = address_from(base, descriptor.name);
-        match name_at(segments, u64::from(at), NAME_ROOM) {
+        match name_at(segments, u64::from(at), NAME_BYTES) {
             None => Err(PeFault::Name),
             Some(library) => {
                 if descriptor.first_thunk == 0 {
@@ -151,7 +168,7 @@ impl Imported {
         ensures exact { MatchResult result (λ _. each_entry (descriptor_step (map range_of segments.now) base) (descriptors (map range_of segments.now) MOST_DESCRIPTORS directory) (seen_by self.old) ≡ Ok (seen_by self.new)) (λ e. (e ≡ PeFault.Memory) ⊎ (each_entry (descriptor_step (map range_of segments.now) base) (descriptors (map range_of segments.now) MOST_DESCRIPTORS directory) (seen_by self.old) ≡ Err e)) }
         ensures few { OnOk result (HasSlots self.new) }
     {
-        for i in 0..MOST_DESCRIPTORS {
+        for i in 0..DESCRIPTOR_ROUNDS {
             match descriptor_at(segments, u64::from(directory) + DESCRIPTOR_SIZE * i) {
                 None => return Err(PeFault::Imports),
                 Some(None) => return Ok(()),

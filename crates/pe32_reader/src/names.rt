@@ -9,7 +9,7 @@ use memory_map::{Name, Segments};
 use std::alloc::{AllocError, Global};
 
 // The longest name and the 0 that ends it.
-pub const NAME_ROOM: u64 = 4097;
+pub const NAME_BYTES: u64 = 4097;
 
 const BY_ORDINAL: u32 = 0x8000_0000;
 
@@ -37,7 +37,7 @@ pub fn import_name(
         return ordinal_name(alloc, library, (word % 0x1_0000) as u16);
     }
     let at = address_from(base, word + 2);
-    match name_at(segments, u64::from(at), NAME_ROOM) {
+    match name_at(segments, u64::from(at), NAME_BYTES) {
         Some(name) => Ok(Name::new(name.to_vec(alloc)?)),
         None => Ok(None),
     }

@@ -1,0 +1,4 @@
+pub mod Texts
+pub mod Lookups
+pub mod Layouts
+pub mod NameLists
