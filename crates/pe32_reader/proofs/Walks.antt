@@ -9,7 +9,7 @@ use Rattle.file_pieces.specs.Found.{bytes_at}
 use Rattle.pe_headers.specs.declared.fault.PeFault.{PeFault}
 use Rattle.pe_headers.specs.declared.fault.PeFault.TheVariants.{Imports}
 use Rattle.pe32_reader.specs.declared.descriptor.Descriptor.{Descriptor}
-use Rattle.pe32_reader.specs.Imports.{Entries, ended, broken, entry, entry_before, each_entry, and_then, descriptors, descriptor_of, Thunk, thunk_of, thunks}
+use Rattle.pe32_reader.specs.Imports.{Entries, ended, broken, entry, entry_before, each_entry, and_then, descriptors, descriptor_of, descriptor_step, Thunk, thunk_of, thunks, Imported, imports_of, nothing, address_from, MOST_DESCRIPTORS}
 
 module _ {X S : Type 0} (step : X → S → Result S PeFault) (table : Entries X) (state : S) where
   pub each-broken : table ≡ broken → each_entry step table state ≡ Err Imports
@@ -86,3 +86,17 @@ descriptors-next ranges (suc n) m at d e h =
 pub descriptors-over : (ranges : List Range) (n at : ℕ) → n ≡ 0 → descriptors ranges n at ≡ broken
 unfolding descriptors
 descriptors-over ranges n at h = ap (λ k. descriptors ranges k at) h
+
+module _ (ranges : List Range) (base : ℕ) where
+  pub imports_of-none : (directory : Option ℕ) → directory ≡ None → imports_of ranges base directory ≡ Ok nothing
+  unfolding imports_of
+  imports_of-none directory h = ap (imports_of ranges base) h
+
+  pub imports_of-some : (directory : Option ℕ) (rva at : ℕ) (state : Imported) (r : Result Imported PeFault) → directory ≡ Some rva → at ≡ address_from base rva → state ≡ nothing
+      → each_entry (descriptor_step ranges base) (descriptors ranges MOST_DESCRIPTORS at) state ≡ r → imports_of ranges base directory ≡ r
+  unfolding imports_of
+  imports_of-some directory rva at state r h k l walk =
+      ap (imports_of ranges base) h
+      ∙ ap (λ a. each_entry (descriptor_step ranges base) (descriptors ranges MOST_DESCRIPTORS a) nothing) (sym k)
+      ∙ ap (λ s. each_entry (descriptor_step ranges base) (descriptors ranges MOST_DESCRIPTORS at) s) (sym l)
+      ∙ walk

@@ -1,6 +1,5 @@
 -- The walk over the imports as the code has it.
 use Rattle.std.specs.Prelude.{ℕ, ◌≤◌, ◌<◌, length, List}
-use Rattle.memory_map.specs.Range.{Range}
 use Rattle.pe32_reader.specs.Imports.{Imported as Seen}
 use Rattle.pe32_reader.specs.declared.imports.Imported.{Imported}
 
@@ -12,7 +11,3 @@ seen_by imported = record { names = imported.names; slots = imported.slots.items
 pub record HasSlots (imported : Imported) : Type 0 where
   pub each : length imported.names ≤ length imported.slots.items
   pub few : length imported.slots.items ≤ 65535
-
--- a range that has some bytes
-pub record IsSome (r : Range) : Type 0 where
-  pub some : 0 < length r.bytes

@@ -1,7 +1,8 @@
-ghost use Rattle.std.specs.Prelude.{◌≡◌, ◌⊎◌, All, IfOk, MatchResult, Ok, Err, None, map, true};
+ghost use Rattle.std.specs.Prelude.{◌≡◌, ◌⊎◌, IfOk, MatchResult, Ok, Err, None, map, true};
+ghost use Rattle.std.specs.List.{list_all};
 ghost use Rattle.memory_map.specs.Map.{range_of, map_fault};
+ghost use Rattle.pe_headers.specs.Layout.{maps_bytes};
 ghost use Rattle.pe32_reader.specs.Image.{image_of, with_slots, shown};
-ghost use Rattle.pe32_reader.specs.Walk.{IsSome};
 
 use crate::imports::imports_of;
 use crate::slots::{Slot, with_slots};
@@ -24,7 +25,7 @@ pub struct PeFile {
 }
 
 fn fill_slots(alloc: Global, segments: &Segments, slots: &[Slot]) -> Result<Segments, AllocError>
-    requires some { All IsSome (map range_of segments.now) }
+    requires some { list_all maps_bytes (map range_of segments.now) ≡ true }
     requires map { map_fault (map range_of segments.now) ≡ None }
     ensures { IfOk result (λ filled. map range_of filled ≡ with_slots (map range_of segments.now) slots.now) }
 {

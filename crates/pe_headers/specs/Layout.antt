@@ -57,6 +57,10 @@ pieces bytes = headers_piece bytes ∷ section_pieces bytes (number_of_sections 
 abbrev pub ranges_of : List ℕ → List Range
 ranges_of bytes = layout bytes (pieces bytes)
 
+-- whether a range has any bytes; those that are mapped have
+abbrev pub maps_bytes : Range → Bool
+maps_bytes r = not (length r.bytes == 0)
+
 -- the file bytes that a section uses pass the file's end; those of the headers never do
 abbrev pub uses_bytes_outside : List ℕ → Bool
 uses_bytes_outside bytes = list_any (λ p. passes_end (length bytes) p.offset p.file_size) (pieces bytes)

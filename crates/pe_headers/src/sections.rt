@@ -1,9 +1,9 @@
-ghost use Rattle.std.specs.Prelude.{◌≡◌, ◌⊎◌, ◌+◌, ◌≤◌, All, IfOk, MatchResult, None, Some, length, map};
-ghost use Rattle.std.specs.List.{list_any};
-ghost use Rattle.memory_map.specs.Map.{range_of};
+ghost use Rattle.std.specs.Prelude.{◌≡◌, ◌⊎◌, ◌+◌, ◌≤◌, All, IfOk, MatchResult, None, OnOk, Some, length, map, true};
+ghost use Rattle.std.specs.List.{list_all, list_any};
+ghost use Rattle.memory_map.specs.Map.{map_fault, range_of};
 ghost use Rattle.file_pieces.specs.Found.{passes_end};
 ghost use Rattle.pe_headers.specs.Faults.{HasHeaders};
-ghost use Rattle.pe_headers.specs.Layout.{IsSized, fault_of_map, file_fault, headers_piece, layout_fault, pieces, perm_of, ranges_of, section_piece, section_size};
+ghost use Rattle.pe_headers.specs.Layout.{IsSized, fault_of_map, file_fault, headers_piece, layout_fault, maps_bytes, pieces, perm_of, ranges_of, section_piece, section_size};
 
 use crate::PeFault;
 use crate::fields::{headers_size, image_base, section_count, section_table};
@@ -101,7 +101,9 @@ fn fault_of_map(fault: MapFault) -> PeFault
 
 fn lay_out(alloc: Global, bytes: &[u8]) -> Result<Segments, PeFault>
     requires { HasHeaders bytes.now }
-    ensures { MatchResult result (λ s. (map range_of s ≡ ranges_of bytes.now) × (layout_fault bytes.now ≡ None)) (λ e. (e ≡ PeFault.Memory) ⊎ (layout_fault bytes.now ≡ Some e)) }
+    ensures exact { MatchResult result (λ s. (map range_of s ≡ ranges_of bytes.now) × (layout_fault bytes.now ≡ None)) (λ e. (e ≡ PeFault.Memory) ⊎ (layout_fault bytes.now ≡ Some e)) }
+    ensures some { OnOk result (list_all maps_bytes (ranges_of bytes.now) ≡ true) }
+    ensures map { IfOk result (λ s. map_fault (map range_of s) ≡ None) }
 {
     let list = pieces(alloc, bytes)?;
     if use_bytes_outside(bytes, &list) {
@@ -116,7 +118,10 @@ fn lay_out(alloc: Global, bytes: &[u8]) -> Result<Segments, PeFault>
 /// What the headers of a file map of it, or the first fault of the headers and of that.
 #[tactic(auto, unfolding(crate::specs::Layout::file_fault))]
 pub fn map_file(alloc: Global, bytes: &[u8]) -> Result<Segments, PeFault>
-    ensures { MatchResult result (λ s. (map range_of s ≡ ranges_of bytes.now) × (file_fault bytes.now ≡ None) × HasHeaders bytes.now) (λ e. (e ≡ PeFault.Memory) ⊎ (file_fault bytes.now ≡ Some e)) }
+    ensures exact { MatchResult result (λ s. (map range_of s ≡ ranges_of bytes.now) × (file_fault bytes.now ≡ None)) (λ e. (e ≡ PeFault.Memory) ⊎ (file_fault bytes.now ≡ Some e)) }
+    ensures headers { OnOk result (HasHeaders bytes.now) }
+    ensures some { OnOk result (list_all maps_bytes (ranges_of bytes.now) ≡ true) }
+    ensures map { IfOk result (λ s. map_fault (map range_of s) ≡ None) }
 {
     match header_fault(bytes) {
         Some(fault) => Err(fault),
