@@ -145,7 +145,7 @@ pub filled-more : (slot : Slot) (old now : List Segment) (i : ℕ) (before after
     → (map range_of (take (i + 1) (set now i after)) ≡ map (filled slot) (map range_of (take (i + 1) old))) × (drop (i + 1) (set now i after) ≡ drop (i + 1) old)
 filled-more slot old now i before after lt same is fill done rest =
     let at : get_or old i before ≡ before =
-        ap (λ k. get_or old k before) (sym (add-zero i)) ∙ sym (get_or-drop i old 0 before) ∙ ap (λ l. get_or l 0 before) (sym rest) ∙ get_or-drop i now 0 before ∙ ap (λ k. get_or now k before) (add-zero i) ∙ sym is in
+    ap (λ k. get_or old k before) (sym (add-zero i)) ∙ sym (get_or-drop i old 0 before) ∙ ap (λ l. get_or l 0 before) (sym rest) ∙ get_or-drop i now 0 before ∙ ap (λ k. get_or now k before) (add-zero i) ∙ sym is in
     let more : take (i + 1) old ≡ take i old ++ before ∷ [] = take_more old i before (omega arith) ∙ ap (λ s. take i old ++ s ∷ []) at in (
       ap (map range_of) (take_more_set now i after lt)
           ∙ map-append range_of (take i now) (after ∷ [])

@@ -19,7 +19,7 @@ module _ (file : List ℕ) where
   image_of-imports ranges base directory r none same at place found =
       ap (image_unless file) none
       ∙ ap (λ i. and_then i (λ imported. Ok (image_with file imported)))
-          (ap (λ d. imports_of (ranges_of file) (image_base file) d) (sym place)
-          ∙ ap (λ b. imports_of (ranges_of file) b directory) (sym at)
-          ∙ ap (λ rs. imports_of rs base directory) (sym same)
-          ∙ found)
+      (ap (λ d. imports_of (ranges_of file) (image_base file) d) (sym place)
+      ∙ ap (λ b. imports_of (ranges_of file) b directory) (sym at)
+      ∙ ap (λ rs. imports_of rs base directory) (sym same)
+      ∙ found)

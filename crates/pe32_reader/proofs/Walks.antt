@@ -24,7 +24,6 @@ module _ {X S : Type 0} (step : X → S → Result S PeFault) (table : Entries X
   pub each-fails : (x : X) (rest : Entries X) (fault : PeFault) → table ≡ entry x rest → step x state ≡ Err fault → each_entry step table state ≡ Err fault
   each-fails x rest fault h k = ap (λ t. each_entry step t state) h ∙ ap (λ r. and_then r (λ n. each_entry step rest n)) k
 
-
 -- what is read at the front of thunk words
 thunk-none : (o : Option (List ℕ)) (slot : ℕ) (rest : Entries Thunk) → option_map (λ bytes. word_at bytes 0) o ≡ None → entry_before (option_map (thunk_of slot) o) rest ≡ broken
 thunk-none None slot rest h = refl

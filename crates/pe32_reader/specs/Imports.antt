@@ -117,7 +117,7 @@ abbrev pub thunk_step : List Range → ℕ → List ℕ → Thunk → Imported �
 thunk_step ranges base library thunk seen =
     if nat_le TOO_MANY_THUNKS (length seen.slots + 1) then Err ManyImports
     else with_some_name (import_name ranges base library thunk.word) (λ name.
-      if is_in_one ranges thunk.slot 4 then Ok (with_import name thunk.slot seen) else Err Imports)
+    if is_in_one ranges thunk.slot 4 then Ok (with_import name thunk.slot seen) else Err Imports)
 
 -- the place of a descriptor's thunk words: OriginalFirstThunk, or FirstThunk where that is 0
 abbrev pub name_list : Descriptor → ℕ
@@ -130,8 +130,8 @@ library_thunks ranges base d = thunks ranges TOO_MANY_THUNKS (address_from base 
 abbrev pub descriptor_step : List Range → ℕ → Descriptor → Imported → Result Imported PeFault
 descriptor_step ranges base d seen =
     with_some_name (name_at ranges (address_from base d.name) NAME_ROOM) (λ library.
-      if d.first_thunk == 0 then Err Imports
-      else each_entry (thunk_step ranges base library) (library_thunks ranges base d) seen)
+    if d.first_thunk == 0 then Err Imports
+    else each_entry (thunk_step ranges base library) (library_thunks ranges base d) seen)
 
 -- what an image imports whose directory has a place, or that has none
 unfoldable pub imports_of : List Range → ℕ → Option ℕ → Result Imported PeFault

@@ -12,3 +12,5 @@ mod slots;
 pub use file::{PeFile, read_pe};
 pub use pe_headers::PeFault;
 
+#[cfg(test)]
+mod tests;

@@ -21,9 +21,9 @@ returns-in_err-imported c =
     let ranges = c.in_ok-mapped.ensures.exact.0 in
     let none = c.in_ok-mapped.ensures.exact.1 in
     rw (p.1, p.2) (⊎_elim
-      inl
-      (λ h. inr (image_of-imports file (map range_of c.in_ok-mapped.mapped) c.image_base-base.result c.import_directory.result _ none ranges c.image_base-base.ensures c.import_directory.ensures h))
-      c.in_err-imported.ensures.exact)
+    inl
+    (λ h. inr (image_of-imports file (map range_of c.in_ok-mapped.mapped) c.image_base-base.result c.import_directory.result _ none ranges c.image_base-base.ensures c.import_directory.ensures h))
+    c.in_err-imported.ensures.exact)
 
 pub fill_slots-requires-clause-some : goal.fill_slots-requires-clause-some
 fill_slots-requires-clause-some c = ap (list_all maps_bytes) c.in_ok-mapped.ensures.exact.0 ∙ c.in_ok-mapped.ensures.some

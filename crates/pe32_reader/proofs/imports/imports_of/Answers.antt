@@ -12,9 +12,9 @@ pub returns-in_err-take_descriptors-in-Some-clause-exact : goal.returns-in_err-t
 returns-in_err-take_descriptors-in-Some-clause-exact c =
     let p = err_from_is_err_and c.from_residual.result c.from_residual.ensures.1 in
     rw (p.1, p.2) (⊎_elim
-      inl
-      (λ h. inr (imports_of-some (map range_of c.args.segments.now) c.args.base c.args.directory c.in-Some.directory c.address_from-at.result _ _ c.in-Some.is c.address_from-at.ensures c.new-imported.ensures.seen h))
-      c.in_err-take_descriptors-in-Some.ensures.exact)
+    inl
+    (λ h. inr (imports_of-some (map range_of c.args.segments.now) c.args.base c.args.directory c.in-Some.directory c.address_from-at.result _ _ c.in-Some.is c.address_from-at.ensures c.new-imported.ensures.seen h))
+    c.in_err-take_descriptors-in-Some.ensures.exact)
 
 pub returns-in_ok-take_descriptors-in-Some-clause-exact : goal.returns-in_ok-take_descriptors-in-Some-clause-exact
 returns-in_ok-take_descriptors-in-Some-clause-exact c =

@@ -35,9 +35,9 @@ returns-in_err-take_descriptor-in-Some-Some-clause-exact c =
     let table = descriptors-next ranges (MOST_DESCRIPTORS - i) m at found (omega arith) (ap Some (sym c.in-Some-Some.field-0-is) ∙ c.in-Some-Some.ensures ∙ place) in
     let p = err_from_is_err_and c.from_residual.result c.from_residual.ensures.1 in
     rw (p.1, p.2) (⊎_elim
-      inl
-      (λ h. inr (c.loop-i.invariant.walk ∙ each-fails step (descriptors ranges (MOST_DESCRIPTORS - i) at) (seen_by c.loop-i.self) found (descriptors ranges m (at + 20)) _ table h))
-      c.in_err-take_descriptor-in-Some-Some.ensures.exact)
+    inl
+    (λ h. inr (c.loop-i.invariant.walk ∙ each-fails step (descriptors ranges (MOST_DESCRIPTORS - i) at) (seen_by c.loop-i.self) found (descriptors ranges m (at + 20)) _ table h))
+    c.in_err-take_descriptor-in-Some-Some.ensures.exact)
 
 pub loop-i-preserved : goal.loop-i-preserved
 loop-i-preserved c =

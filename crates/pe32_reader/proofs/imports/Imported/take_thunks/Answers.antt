@@ -38,9 +38,9 @@ returns-in_err-take_thunk-in-Some-clause-exact c =
     let table = thunks-word ranges (TOO_MANY_THUNKS - i) m at slot word (omega arith) (c.in-Some.ensures ∙ place) (λ e. omega arith) in
     let p = err_from_is_err_and c.from_residual.result c.from_residual.ensures.1 in
     rw (p.1, p.2) (⊎_elim
-      inl
-      (λ h. inr (c.loop-i.invariant.walk ∙ each-fails step (thunks ranges (TOO_MANY_THUNKS - i) at slot) (seen_by c.loop-i.self) (record { word = word; slot = slot }) (thunks ranges m (at + 4) (slot + 4)) _ table (sym tried ∙ h)))
-      c.in_err-take_thunk-in-Some.ensures.exact)
+    inl
+    (λ h. inr (c.loop-i.invariant.walk ∙ each-fails step (thunks ranges (TOO_MANY_THUNKS - i) at slot) (seen_by c.loop-i.self) (record { word = word; slot = slot }) (thunks ranges m (at + 4) (slot + 4)) _ table (sym tried ∙ h)))
+    c.in_err-take_thunk-in-Some.ensures.exact)
 
 pub loop-i-preserved : goal.loop-i-preserved
 loop-i-preserved c =
