@@ -1,5 +1,7 @@
 -- The walk over the imports as the code has it.
-use Rattle.std.specs.Prelude.{ℕ, ◌≤◌, ◌<◌, length, List}
+use Rattle.std.specs.Prelude.{◌≡◌, ◌⊎◌, ◌≤◌, length, Result, Ok, Err, MatchResult}
+use Rattle.pe_headers.specs.declared.fault.PeFault.{PeFault}
+use Rattle.pe_headers.specs.declared.fault.PeFault.TheVariants.{Memory}
 use Rattle.pe32_reader.specs.Imports.{Imported as Seen}
 use Rattle.pe32_reader.specs.declared.imports.Imported.{Imported}
 
@@ -11,3 +13,7 @@ seen_by imported = record { names = imported.names; slots = imported.slots.items
 pub record HasSlots (imported : Imported) : Type 0 where
   pub each : length imported.names ≤ length imported.slots.items
   pub few : length imported.slots.items ≤ 65535
+
+-- a part of the walk came to what it should: with Ok to what is imported then, or to its fault; want of memory is free
+abbrev pub ComesTo : {T : Type 0} → Result Seen PeFault → Seen → Result T PeFault → Type 0
+ComesTo walked now result = MatchResult result (λ _. walked ≡ Ok now) (λ e. (e ≡ Memory) ⊎ (walked ≡ Err e))

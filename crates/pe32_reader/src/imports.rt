@@ -4,7 +4,7 @@ ghost use Rattle.memory_map.specs.Name.{is_name};
 ghost use Rattle.file_pieces.specs.Found.{is_in_one, name_at};
 ghost use Rattle.file_pieces.specs.Names.{index_of, with_name};
 ghost use Rattle.pe32_reader.specs.Imports.{address_from, descriptor_step, descriptors, each_entry, import_place, imports_of, library_thunks, nothing, thunk_step, thunks, with_import, with_some_name, MOST_DESCRIPTORS, NAME_ROOM, TOO_MANY_THUNKS};
-ghost use Rattle.pe32_reader.specs.Walk.{seen_by, HasSlots};
+ghost use Rattle.pe32_reader.specs.Walk.{seen_by, ComesTo, HasSlots};
 
 use crate::descriptor::{DESCRIPTOR_SIZE, Descriptor, address_from, descriptor_at, word_in};
 use crate::names::{NAME_BYTES, import_name};
@@ -85,7 +85,7 @@ impl Imported {
     ) -> Result<(), PeFault>
         requires slots { HasSlots self.old }
         requires small { slot < 2 ^ 63 }
-        ensures exact { MatchResult result (λ _. thunk_step (map range_of segments.now) base library.now (record { word = word; slot = slot }) (seen_by self.old) ≡ Ok (seen_by self.new)) (λ e. (e ≡ PeFault.Memory) ⊎ (thunk_step (map range_of segments.now) base library.now (record { word = word; slot = slot }) (seen_by self.old) ≡ Err e)) }
+        ensures exact { ComesTo (thunk_step (map range_of segments.now) base library.now (record { word = word; slot = slot }) (seen_by self.old)) (seen_by self.new) result }
         ensures few { OnOk result (HasSlots self.new) }
     {
         if self.slots.len() as u64 + 1 >= THUNK_ROUNDS {
@@ -114,7 +114,7 @@ impl Imported {
         slots: u32,
     ) -> Result<(), PeFault>
         requires { HasSlots self.old }
-        ensures exact { MatchResult result (λ _. each_entry (thunk_step (map range_of segments.now) base library.now) (thunks (map range_of segments.now) TOO_MANY_THUNKS list slots) (seen_by self.old) ≡ Ok (seen_by self.new)) (λ e. (e ≡ PeFault.Memory) ⊎ (each_entry (thunk_step (map range_of segments.now) base library.now) (thunks (map range_of segments.now) TOO_MANY_THUNKS list slots) (seen_by self.old) ≡ Err e)) }
+        ensures exact { ComesTo (each_entry (thunk_step (map range_of segments.now) base library.now) (thunks (map range_of segments.now) TOO_MANY_THUNKS list slots) (seen_by self.old)) (seen_by self.new) result }
         ensures few { OnOk result (HasSlots self.new) }
     {
         for i in 0..THUNK_ROUNDS {
@@ -139,7 +139,7 @@ impl Imported {
         descriptor: Descriptor,
     ) -> Result<(), PeFault>
         requires { HasSlots self.old }
-        ensures exact { MatchResult result (λ _. descriptor_step (map range_of segments.now) base descriptor (seen_by self.old) ≡ Ok (seen_by self.new)) (λ e. (e ≡ PeFault.Memory) ⊎ (descriptor_step (map range_of segments.now) base descriptor (seen_by self.old) ≡ Err e)) }
+        ensures exact { ComesTo (descriptor_step (map range_of segments.now) base descriptor (seen_by self.old)) (seen_by self.new) result }
         ensures few { OnOk result (HasSlots self.new) }
     {
         let at = address_from(base, descriptor.name);
@@ -165,7 +165,7 @@ impl Imported {
         directory: u32,
     ) -> Result<(), PeFault>
         requires { HasSlots self.old }
-        ensures exact { MatchResult result (λ _. each_entry (descriptor_step (map range_of segments.now) base) (descriptors (map range_of segments.now) MOST_DESCRIPTORS directory) (seen_by self.old) ≡ Ok (seen_by self.new)) (λ e. (e ≡ PeFault.Memory) ⊎ (each_entry (descriptor_step (map range_of segments.now) base) (descriptors (map range_of segments.now) MOST_DESCRIPTORS directory) (seen_by self.old) ≡ Err e)) }
+        ensures exact { ComesTo (each_entry (descriptor_step (map range_of segments.now) base) (descriptors (map range_of segments.now) MOST_DESCRIPTORS directory) (seen_by self.old)) (seen_by self.new) result }
         ensures few { OnOk result (HasSlots self.new) }
     {
         for i in 0..DESCRIPTOR_ROUNDS {

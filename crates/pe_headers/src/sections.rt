@@ -84,8 +84,7 @@ fn pieces(alloc: Global, bytes: &[u8]) -> Result<Vec<Piece>, AllocError>
 fn use_bytes_outside(bytes: &[u8], list: &[Piece]) -> bool
     ensures { result ≡ list_any (λ p. passes_end (length bytes.now) p.offset p.file_size) list.now }
 {
-    list.iter()
-        .any(|p| passes_end(bytes, u64::from(p.offset), u64::from(p.file_size)))
+    list.iter().any(|p| passes_end(bytes, u64::from(p.offset), u64::from(p.file_size)))
 }
 
 fn fault_of_map(fault: MapFault) -> PeFault
