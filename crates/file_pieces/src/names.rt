@@ -118,7 +118,7 @@ impl SeenNames {
     /// The index of a name, which goes last where it was not given before. A refusal changes nothing.
     pub fn index_of(&mut self, alloc: Global, name: &[u8]) -> Result<u32, NameFault>
         requires { IsTrue (is_name name.now) }
-        ensures { MatchResult result (λ i. (i ≡ index_of self.old name.now) × (self.new ≡ with_name self.old name.now) × (i < length self.new)) (λ e. (self.new ≡ self.old) × ((e ≡ NameFault.Memory) ⊎ ((e ≡ NameFault.Full) × (is_named self.old name.now ≡ false) × (MOST_NAMES ≤ length self.old)))) }
+        ensures { MatchResult result (λ i. (i ≡ index_of self.old name.now) × (self.new ≡ with_name self.old name.now) × (i < length self.new) × (length self.new ≤ MOST_NAMES)) (λ e. (self.new ≡ self.old) × ((e ≡ NameFault.Memory) ⊎ ((e ≡ NameFault.Full) × (is_named self.old name.now ≡ false) × (MOST_NAMES ≤ length self.old)))) }
     {
         match self.held.get_index_of(name) {
             Some(index) => Ok(index as u32),
@@ -138,7 +138,7 @@ impl SeenNames {
     fn push(&mut self, alloc: Global, name: &[u8]) -> Result<u32, NameFault>
         requires name { IsTrue (is_name name.now) }
         requires other { is_named self.old name.now ≡ false }
-        ensures { MatchResult result (λ i. (i ≡ index_of self.old name.now) × (self.new ≡ with_name self.old name.now) × (i < length self.new)) (λ e. (self.new ≡ self.old) × ((e ≡ NameFault.Memory) ⊎ ((e ≡ NameFault.Full) × (is_named self.old name.now ≡ false) × (MOST_NAMES ≤ length self.old)))) }
+        ensures { MatchResult result (λ i. (i ≡ index_of self.old name.now) × (self.new ≡ with_name self.old name.now) × (i < length self.new) × (length self.new ≤ MOST_NAMES)) (λ e. (self.new ≡ self.old) × ((e ≡ NameFault.Memory) ⊎ ((e ≡ NameFault.Full) × (is_named self.old name.now ≡ false) × (MOST_NAMES ≤ length self.old)))) }
     {
         if self.held.len() >= MOST_NAMES {
             return Err(NameFault::Full);
