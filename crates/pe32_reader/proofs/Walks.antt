@@ -6,10 +6,11 @@ use Rattle.std.proofs.lemmas.Bool.{ne_eqb}
 use Rattle.memory_map.specs.FileBytes.{word_at}
 use Rattle.memory_map.specs.Range.{Range}
 use Rattle.file_pieces.specs.Found.{bytes_at}
+use Rattle.pe_headers.specs.Headers.{address_from}
 use Rattle.pe_headers.specs.declared.fault.PeFault.{PeFault}
 use Rattle.pe_headers.specs.declared.fault.PeFault.TheVariants.{Imports}
 use Rattle.pe32_reader.specs.declared.descriptor.Descriptor.{Descriptor}
-use Rattle.pe32_reader.specs.Imports.{Entries, ended, broken, entry, entry_before, each_entry, and_then, descriptors, descriptor_of, descriptor_step, Thunk, thunk_of, thunks, Imported, imports_of, nothing, address_from, MOST_DESCRIPTORS}
+use Rattle.pe32_reader.specs.Imports.{Entries, ended, broken, entry, entry_before, each_entry, and_then, descriptors, descriptor_of, descriptor_step, Thunk, thunk_of, thunks, Imported, imports_of, nothing, MOST_DESCRIPTORS}
 
 module _ {X S : Type 0} (step : X → S → Result S PeFault) (table : Entries X) (state : S) where
   pub each-broken : table ≡ broken → each_entry step table state ≡ Err Imports

@@ -9,6 +9,7 @@ use Rattle.memory_map.specs.Image.{EXIT_PLACE}
 use Rattle.memory_map.specs.Name.{is_name}
 use Rattle.file_pieces.specs.Found.{bytes_at, is_in_one, name_at}
 use Rattle.file_pieces.specs.Names.{index_of, with_name}
+use Rattle.pe_headers.specs.Headers.{address_from}
 use Rattle.pe_headers.specs.declared.fault.PeFault.{PeFault}
 use Rattle.pe_headers.specs.declared.fault.PeFault.TheVariants.{Imports, Name, ManyImports}
 use Rattle.pe32_reader.specs.declared.descriptor.Descriptor.{Descriptor}
@@ -36,10 +37,6 @@ abbrev pub each_entry : {X S : Type 0} → (X → S → Result S PeFault) → En
 each_entry step ended state = Ok state
 each_entry step broken state = Err Imports
 each_entry step (entry x rest) state = and_then (step x state) (λ next. each_entry step rest next)
-
--- the address of a place that is counted from the image's base
-abbrev pub address_from : ℕ → ℕ → ℕ
-address_from base rva = (base + rva) % 2 ^ 32
 
 -- "Import Directory Table": the descriptor of 20 bytes; where all are 0 it ends the table
 abbrev pub descriptor_of : List ℕ → Option Descriptor

@@ -2,18 +2,18 @@
 use Rattle.std.specs.Prelude.{◌≡◌, ◌⊎◌, ◌≤◌, length, Result, Ok, Err, MatchResult}
 use Rattle.pe_headers.specs.declared.fault.PeFault.{PeFault}
 use Rattle.pe_headers.specs.declared.fault.PeFault.TheVariants.{Memory}
-use Rattle.pe32_reader.specs.Imports.{Imported as Seen}
-use Rattle.pe32_reader.specs.declared.imports.Imported.{Imported}
+use Rattle.pe32_reader.specs.Imports.{Imported}
+use Rattle.pe32_reader.specs.declared.imports.ImportTable.{ImportTable}
 
 -- what is imported so far
-abbrev pub seen_by : Imported → Seen
-seen_by imported = record { names = imported.names; slots = imported.slots.items }
+abbrev pub seen_by : ImportTable → Imported
+seen_by table = record { names = table.names; slots = table.slots.items }
 
 -- each name has a slot, and there are no more slots than an image may have
-pub record HasSlots (imported : Imported) : Type 0 where
-  pub each : length imported.names ≤ length imported.slots.items
-  pub few : length imported.slots.items ≤ 65535
+pub record HasSlots (table : ImportTable) : Type 0 where
+  pub each : length table.names ≤ length table.slots.items
+  pub few : length table.slots.items ≤ 65535
 
 -- a part of the walk came to what it should: with Ok to what is imported then, or to its fault; want of memory is free
-abbrev pub ComesTo : {T : Type 0} → Result Seen PeFault → Seen → Result T PeFault → Type 0
+abbrev pub ComesTo : {T : Type 0} → Result Imported PeFault → Imported → Result T PeFault → Type 0
 ComesTo walked now result = MatchResult result (λ _. walked ≡ Ok now) (λ e. (e ≡ Memory) ⊎ (walked ≡ Err e))

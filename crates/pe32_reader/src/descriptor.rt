@@ -4,7 +4,7 @@ ghost use Rattle.std.specs.List.{list_all};
 ghost use Rattle.memory_map.specs.FileBytes.{word_at};
 ghost use Rattle.memory_map.specs.Map.{range_of};
 ghost use Rattle.file_pieces.specs.Found.{bytes_at};
-ghost use Rattle.pe32_reader.specs.Imports.{address_from, descriptor_of, name_list};
+ghost use Rattle.pe32_reader.specs.Imports.{descriptor_of, name_list};
 
 use file_pieces::bytes_at;
 use memory_map::{Segments, word_at};
@@ -30,13 +30,6 @@ impl Descriptor {
             self.original_first_thunk
         }
     }
-}
-
-// The address of a place that is counted from the image's base.
-pub fn address_from(base: u32, rva: u32) -> u32
-    ensures { result ≡ address_from base rva }
-{
-    base.wrapping_add(rva)
 }
 
 fn are_zero(bytes: &[u8]) -> bool

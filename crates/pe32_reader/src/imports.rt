@@ -3,15 +3,15 @@ ghost use Rattle.memory_map.specs.Map.{range_of};
 ghost use Rattle.memory_map.specs.Name.{is_name};
 ghost use Rattle.file_pieces.specs.Found.{is_in_one, name_at};
 ghost use Rattle.file_pieces.specs.Names.{index_of, with_name};
-ghost use Rattle.pe32_reader.specs.Imports.{address_from, descriptor_step, descriptors, each_entry, import_place, imports_of, library_thunks, nothing, thunk_step, thunks, with_import, with_some_name, MOST_DESCRIPTORS, NAME_ROOM, TOO_MANY_THUNKS};
+ghost use Rattle.pe32_reader.specs.Imports.{descriptor_step, descriptors, each_entry, import_place, imports_of, library_thunks, nothing, thunk_step, thunks, with_import, with_some_name, MOST_DESCRIPTORS, NAME_ROOM, TOO_MANY_THUNKS};
 ghost use Rattle.pe32_reader.specs.Walk.{seen_by, ComesTo, HasSlots};
 
-use crate::descriptor::{DESCRIPTOR_SIZE, Descriptor, address_from, descriptor_at, word_in};
+use crate::descriptor::{DESCRIPTOR_SIZE, Descriptor, descriptor_at, word_in};
 use crate::names::{NAME_BYTES, import_name};
 use crate::slots::{Slot, slot_address};
 use file_pieces::{NameFault, SeenNames, name_at};
 use memory_map::{Name, Segments, USER_END};
-use pe_headers::PeFault;
+use pe_headers::{PeFault, address_from};
 use std::alloc::{AllocError, Global};
 
 const THUNK_ROUNDS: u64 = 65_536;
@@ -20,7 +20,7 @@ const DESCRIPTOR_ROUNDS: u64 = 214_748_365;
 
 /// What is imported so far: names in first-seen order, and slots with the places that they are to receive.
 #[derive(Drop)]
-pub struct Imported {
+pub struct ImportTable {
     pub names: SeenNames,
     pub slots: Vec<Slot>,
 }
@@ -32,12 +32,12 @@ fn import_place(index: u32) -> u32
     USER_END + 16 + 16 * index
 }
 
-impl Imported {
-    fn new(alloc: Global) -> Imported
+impl ImportTable {
+    fn new(alloc: Global) -> ImportTable
         ensures seen { seen_by result ≡ nothing }
         ensures few { HasSlots result }
     {
-        Imported {
+        ImportTable {
             names: SeenNames::new(alloc),
             slots: Vec::new(alloc),
         }
@@ -187,11 +187,11 @@ pub fn imports_of(
     segments: &Segments,
     base: u32,
     directory: Option<u32>,
-) -> Result<Imported, PeFault>
+) -> Result<ImportTable, PeFault>
     ensures exact { MatchResult result (λ imported. imports_of (map range_of segments.now) base directory ≡ Ok (seen_by imported)) (λ e. (e ≡ PeFault.Memory) ⊎ (imports_of (map range_of segments.now) base directory ≡ Err e)) }
     ensures few { IfOk result HasSlots }
 {
-    let mut imported = Imported::new(alloc);
+    let mut imported = ImportTable::new(alloc);
     match directory {
         None => Ok(imported),
         Some(directory) => {

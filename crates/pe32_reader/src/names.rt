@@ -2,10 +2,10 @@ ghost use Rattle.std.specs.Prelude.{◌≡◌, ◌≤◌, ◌%◌, map, length, 
 ghost use Rattle.memory_map.specs.Map.{range_of};
 ghost use Rattle.pe32_reader.specs.Imports.{import_name, ordinal_name};
 
-use crate::descriptor::address_from;
 use file_pieces::name_at;
 use itoa::Buffer;
 use memory_map::{Name, Segments};
+use pe_headers::address_from;
 use std::alloc::{AllocError, Global};
 
 // The longest name and the 0 that ends it.

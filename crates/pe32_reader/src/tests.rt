@@ -6,54 +6,132 @@ use std::test::Fail;
 
 const CODE: [u8; 9] = [0x6A, 0x00, 0xFF, 0x15, 0x34, 0x20, 0x40, 0x00, 0xCC];
 
-// Where the fields of such a file stand.
-const LFANEW: usize = 60;
-
-const MACHINE: usize = 68;
-
+// Places of the worked file: NumberOfSections, the section headers, and fields of these.
 const SECTIONS: usize = 70;
-
-const OPTIONAL_SIZE: usize = 84;
-
-const MAGIC: usize = 88;
-
-const BASE: usize = 116;
-
-const HEADERS_SIZE: usize = 148;
-
-const DIRECTORIES: usize = 180;
-
-const IMPORT_TABLE: usize = 192;
 
 const TEXT: usize = 200;
 
 const IDATA: usize = 240;
 
-// Within a section header.
 const VIRTUAL_SIZE: usize = 8;
-
-const VIRTUAL_ADDRESS: usize = 12;
 
 const RAW_SIZE: usize = 16;
 
 const RAW_PLACE: usize = 20;
 
-// The descriptor, the thunk words, the library's name and the import's.
-const CODE_PLACE: usize = 280;
-
-const LIST: usize = 289;
-
-const LIBRARY: usize = 301;
-
-const SLOTS: usize = 305;
-
-const SECOND: usize = 309;
-
-const THUNKS: usize = 329;
-
-const LIBRARY_NAME: usize = 353;
-
-const NAME: usize = 361;
+// Bytes put at places of the worked file, and the fault that it then has, or that it is read.
+// The headers' fields stand there at: e_lfanew 60, the signature 64, Machine 68, NumberOfSections 70, SizeOfOptionalHeader 84, Magic 88, ImageBase 116, SizeOfHeaders 148, NumberOfRvaAndSizes 180, the import table's address 192.
+// The section headers of `.text` and `.idata` begin at 200 and 240: VirtualSize 208 and 248, VirtualAddress 212 and 252, SizeOfRawData 216 and 256, PointerToRawData 220 and 260.
+// The code is at 280. `.idata`, RVA 2000, is at 289: the descriptor's name list there, its Name at 301, its FirstThunk at 305, a zero descriptor at 309, the thunk words at 329, the library's name at 353, the import's name at 361.
+const DAMAGED: &str = "\
+|read
+0 4E|Magic
+1 7A|Magic
+0 5A 4D; 60 FF FF FF FF|Magic
+# the signature: past the end by one byte, up to the end, another
+60 FF FF FF FF|Signature
+60 5E 01; 350 50 45 00 00|Signature
+60 5D 01; 349 50 45 00 00|Machine
+64 50 45 00 01|Signature
+64 4E 45; 68 00|Signature
+68 4D|Machine
+68 64 86|Machine
+68 00; 88 00|Machine
+# the optional header: 95 and 96 bytes, up to the end, past it by one byte, of PE32+
+84 5F|Optional
+84 60|RawOutside
+84 1D 01|Sections
+84 1E 01|Optional
+88 0B 02|Optional
+88 0B 02; 70 00|Optional
+# sections: none, a table inside the file, past its end
+70 00|Sections
+70 03|Overlap
+70 04|RawOutside
+70 05|Sections
+70 61|Sections
+70 00; 260 FF|Sections
+# file bytes: those that are used count
+248 55; 256 55|RawOutside
+256 55|read
+256 FF FF FF FF|read
+248 00|read
+248 00; 256 55|RawOutside
+260 22|RawOutside
+260 FF FF FF FF|RawOutside
+216 00; 220 FF FF FF FF|read
+260 22; 116 00 00 00 00|RawOutside
+# addresses: below 4096 and from there on, up to F0000000 and past it, past 2^32
+116 00 00 00 00|Address
+116 00 00 00 00; 148 00 00|read
+116 FF 0F 00 00|Address
+116 00 10 00 00|read
+116 00 F0 FF EF|Address
+116 AC DF FF EF|read
+116 AD DF FF EF|Address
+212 00 F0 FF FF|Address
+208 FF FF FF FF|Address
+116 00 00 00 00; 212 00 00|Address
+# overlaps: the headers' last byte and the address after it, a section's
+212 00 00|Overlap
+212 17 01|Overlap
+212 18 01|read
+148 FF FF FF FF|read
+148 00 00|read
+252 08 10|Overlap
+252 09 10|Imports
+208 01 00 00 04|Overlap
+# mapped bytes: one more than 67,108,864
+208 95 FE FF 03 00 00 01 00|TooLarge
+208 95 FE FF 03 00 00 01 00; 305 00 00|TooLarge
+# the import directory: there or not, in one segment or not
+180 01; 289 FF FF FF FF|read
+192 00 00; 289 FF FF FF FF|read
+192 40 20|Name
+192 41 20|Imports
+192 54 20|Imports
+192 FF FF FF FF|Imports
+309 28 20 00 00 00 00 00 00 00 00 00 00 40 20 00 00 34 20 00 00|Name
+317 01|Imports
+# the name list and the slots
+289 00 00 00 00|read
+289 04 00|read
+289 FF FF FF FF|Imports
+289 50|Name
+289 51|Imports
+305 00 00|Imports
+305 04 00|read
+305 28|read
+305 FF FF FF FF|Imports
+305 4C|read
+305 50|Imports
+305 50; 333 00 00 00 00|read
+305 51; 333 00 00 00 00|Imports
+305 FF FF FF FF; 361 00|Name
+305 FF FF FF FF; 329 00 00 00 00|read
+# a library's name: unmapped, empty, with other bytes; before FirstThunk and the words
+301 54 20|Name
+301 FF FF FF FF|Name
+301 45|Name
+301 44|read
+353 20|Name
+353 7F|Name
+353 7E|read
+301 54 20; 305 00 00|Name
+301 54 20; 289 FF FF FF FF|Name
+305 00 00; 361 00|Imports
+# an import's name: unmapped, empty, not ended in its segment, ended by the zeros after its file bytes
+329 52 20|Name
+329 FF FF FF 7F|Name
+361 00|Name
+361 80|Name
+372 78|Name
+372 78; 248 55|read
+333 FF FF FF FF|read
+280 61 62 00; 329 FE 0F|read
+280 61 62 63 64 65 66 67 68 69; 329 FE 0F|Name
+289 08 10; 288 01|Imports
+";
 
 fn put(file: &mut [u8], at: usize, bytes: &[u8]) {
     for (place, b) in file.iter_mut().skip(at).zip(bytes.iter()) {
@@ -112,217 +190,48 @@ fn fronts_are_refused(rt: HostRuntime) -> Result<(), Fail> {
     Ok(())
 }
 
+fn fault_named(name: &str) -> Option<PeFault> {
+    match name {
+        "Magic" => Some(PeFault::Magic),
+        "Signature" => Some(PeFault::Signature),
+        "Machine" => Some(PeFault::Machine),
+        "Optional" => Some(PeFault::Optional),
+        "Sections" => Some(PeFault::Sections),
+        "RawOutside" => Some(PeFault::RawOutside),
+        "Address" => Some(PeFault::Address),
+        "Overlap" => Some(PeFault::Overlap),
+        "TooLarge" => Some(PeFault::TooLarge),
+        "Imports" => Some(PeFault::Imports),
+        "Name" => Some(PeFault::Name),
+        _ => None,
+    }
+}
+
+// Puts each place's bytes into a file.
+fn damage(alloc: Global, file: &mut [u8], places: &str) -> Result<(), Fail> {
+    for place in places.split(';') {
+        let mut words = place.split_whitespace();
+        if let Some(at) = words.next() {
+            let at = at.parse::<usize>()?;
+            let mut bytes = Vec::new(alloc);
+            for word in words {
+                bytes.push(u8::from_str_radix(word, 16)?)?;
+            }
+            put(file, at, &bytes);
+        }
+    }
+    Ok(())
+}
+
 #[test]
 fn damaged_files_have_their_first_fault(rt: HostRuntime) -> Result<(), Fail> {
     let alloc = rt.alloc();
-    let cases: [(&[(usize, &[u8])], Option<PeFault>); 96] = [
-        (&[], None),
-        (&[(0, b"N")], Some(PeFault::Magic)),
-        (&[(1, b"z")], Some(PeFault::Magic)),
-        (
-            &[(0, b"ZM"), (LFANEW, b"\xFF\xFF\xFF\xFF")],
-            Some(PeFault::Magic),
-        ),
-        // the signature: past the end by one byte, up to the end, another
-        (&[(LFANEW, b"\xFF\xFF\xFF\xFF")], Some(PeFault::Signature)),
-        (
-            &[(LFANEW, b"\x5E\x01"), (350, b"PE\0\0")],
-            Some(PeFault::Signature),
-        ),
-        (
-            &[(LFANEW, b"\x5D\x01"), (349, b"PE\0\0")],
-            Some(PeFault::Machine),
-        ),
-        (&[(64, b"PE\0\x01")], Some(PeFault::Signature)),
-        (&[(64, b"NE"), (MACHINE, b"\0")], Some(PeFault::Signature)),
-        (&[(MACHINE, b"\x4D")], Some(PeFault::Machine)),
-        (&[(MACHINE, b"\x64\x86")], Some(PeFault::Machine)),
-        (&[(MACHINE, b"\0"), (MAGIC, b"\0")], Some(PeFault::Machine)),
-        // the optional header: 95 and 96 bytes, up to the end, past it by one byte, of PE32+
-        (&[(OPTIONAL_SIZE, b"\x5F")], Some(PeFault::Optional)),
-        (&[(OPTIONAL_SIZE, b"\x60")], Some(PeFault::RawOutside)),
-        (&[(OPTIONAL_SIZE, b"\x1D\x01")], Some(PeFault::Sections)),
-        (&[(OPTIONAL_SIZE, b"\x1E\x01")], Some(PeFault::Optional)),
-        (&[(MAGIC, b"\x0B\x02")], Some(PeFault::Optional)),
-        (
-            &[(MAGIC, b"\x0B\x02"), (SECTIONS, b"\0")],
-            Some(PeFault::Optional),
-        ),
-        // sections: none, a table inside the file, past its end
-        (&[(SECTIONS, b"\0")], Some(PeFault::Sections)),
-        (&[(SECTIONS, b"\x03")], Some(PeFault::Overlap)),
-        (&[(SECTIONS, b"\x04")], Some(PeFault::RawOutside)),
-        (&[(SECTIONS, b"\x05")], Some(PeFault::Sections)),
-        (&[(SECTIONS, b"\x61")], Some(PeFault::Sections)),
-        (
-            &[(SECTIONS, b"\0"), (IDATA + RAW_PLACE, b"\xFF")],
-            Some(PeFault::Sections),
-        ),
-        // file bytes: those that are used count
-        (
-            &[(IDATA + VIRTUAL_SIZE, b"\x55"), (IDATA + RAW_SIZE, b"\x55")],
-            Some(PeFault::RawOutside),
-        ),
-        (&[(IDATA + RAW_SIZE, b"\x55")], None),
-        (&[(IDATA + RAW_SIZE, b"\xFF\xFF\xFF\xFF")], None),
-        (&[(IDATA + VIRTUAL_SIZE, b"\0")], None),
-        (
-            &[(IDATA + VIRTUAL_SIZE, b"\0"), (IDATA + RAW_SIZE, b"\x55")],
-            Some(PeFault::RawOutside),
-        ),
-        (&[(IDATA + RAW_PLACE, b"\x22")], Some(PeFault::RawOutside)),
-        (
-            &[(IDATA + RAW_PLACE, b"\xFF\xFF\xFF\xFF")],
-            Some(PeFault::RawOutside),
-        ),
-        (
-            &[
-                (TEXT + RAW_SIZE, b"\0"),
-                (TEXT + RAW_PLACE, b"\xFF\xFF\xFF\xFF"),
-            ],
-            None,
-        ),
-        (
-            &[(IDATA + RAW_PLACE, b"\x22"), (BASE, b"\0\0\0\0")],
-            Some(PeFault::RawOutside),
-        ),
-        // addresses: below 4096 and from there on, up to F0000000 and past it, past 2^32
-        (&[(BASE, b"\0\0\0\0")], Some(PeFault::Address)),
-        (&[(BASE, b"\0\0\0\0"), (HEADERS_SIZE, b"\0\0")], None),
-        (&[(BASE, b"\xFF\x0F\0\0")], Some(PeFault::Address)),
-        (&[(BASE, b"\0\x10\0\0")], None),
-        (&[(BASE, b"\0\xF0\xFF\xEF")], Some(PeFault::Address)),
-        (&[(BASE, b"\xAC\xDF\xFF\xEF")], None),
-        (&[(BASE, b"\xAD\xDF\xFF\xEF")], Some(PeFault::Address)),
-        (
-            &[(TEXT + VIRTUAL_ADDRESS, b"\0\xF0\xFF\xFF")],
-            Some(PeFault::Address),
-        ),
-        (
-            &[(TEXT + VIRTUAL_SIZE, b"\xFF\xFF\xFF\xFF")],
-            Some(PeFault::Address),
-        ),
-        (
-            &[(BASE, b"\0\0\0\0"), (TEXT + VIRTUAL_ADDRESS, b"\0\0")],
-            Some(PeFault::Address),
-        ),
-        // overlaps: the headers' last byte and the address after it, a section's
-        (&[(TEXT + VIRTUAL_ADDRESS, b"\0\0")], Some(PeFault::Overlap)),
-        (
-            &[(TEXT + VIRTUAL_ADDRESS, b"\x17\x01")],
-            Some(PeFault::Overlap),
-        ),
-        (&[(TEXT + VIRTUAL_ADDRESS, b"\x18\x01")], None),
-        (&[(HEADERS_SIZE, b"\xFF\xFF\xFF\xFF")], None),
-        (&[(HEADERS_SIZE, b"\0\0")], None),
-        (
-            &[(IDATA + VIRTUAL_ADDRESS, b"\x08\x10")],
-            Some(PeFault::Overlap),
-        ),
-        (
-            &[(IDATA + VIRTUAL_ADDRESS, b"\x09\x10")],
-            Some(PeFault::Imports),
-        ),
-        (
-            &[(TEXT + VIRTUAL_SIZE, b"\x01\0\0\x04")],
-            Some(PeFault::Overlap),
-        ),
-        // mapped bytes: one more than 67,108,864
-        (
-            &[(TEXT + VIRTUAL_SIZE, b"\x95\xFE\xFF\x03\0\0\x01\0")],
-            Some(PeFault::TooLarge),
-        ),
-        (
-            &[
-                (TEXT + VIRTUAL_SIZE, b"\x95\xFE\xFF\x03\0\0\x01\0"),
-                (SLOTS, b"\0\0"),
-            ],
-            Some(PeFault::TooLarge),
-        ),
-        // the import directory: there or not, in one segment or not
-        (&[(DIRECTORIES, b"\x01"), (LIST, b"\xFF\xFF\xFF\xFF")], None),
-        (
-            &[(IMPORT_TABLE, b"\0\0"), (LIST, b"\xFF\xFF\xFF\xFF")],
-            None,
-        ),
-        (&[(IMPORT_TABLE, b"\x40\x20")], Some(PeFault::Name)),
-        (&[(IMPORT_TABLE, b"\x41\x20")], Some(PeFault::Imports)),
-        (&[(IMPORT_TABLE, b"\x54\x20")], Some(PeFault::Imports)),
-        (
-            &[(IMPORT_TABLE, b"\xFF\xFF\xFF\xFF")],
-            Some(PeFault::Imports),
-        ),
-        (
-            &[(
-                SECOND,
-                b"\x28\x20\0\0\0\0\0\0\0\0\0\0\x40\x20\0\0\x34\x20\0\0",
-            )],
-            Some(PeFault::Name),
-        ),
-        (&[(SECOND + 8, b"\x01")], Some(PeFault::Imports)),
-        // the name list and the slots
-        (&[(LIST, b"\0\0\0\0")], None),
-        (&[(LIST, b"\x04\0")], None),
-        (&[(LIST, b"\xFF\xFF\xFF\xFF")], Some(PeFault::Imports)),
-        (&[(LIST, b"\x50")], Some(PeFault::Name)),
-        (&[(LIST, b"\x51")], Some(PeFault::Imports)),
-        (&[(SLOTS, b"\0\0")], Some(PeFault::Imports)),
-        (&[(SLOTS, b"\x04\0")], None),
-        (&[(SLOTS, b"\x28")], None),
-        (&[(SLOTS, b"\xFF\xFF\xFF\xFF")], Some(PeFault::Imports)),
-        (&[(SLOTS, b"\x4C")], None),
-        (&[(SLOTS, b"\x50")], Some(PeFault::Imports)),
-        (&[(SLOTS, b"\x50"), (THUNKS + 4, b"\0\0\0\0")], None),
-        (
-            &[(SLOTS, b"\x51"), (THUNKS + 4, b"\0\0\0\0")],
-            Some(PeFault::Imports),
-        ),
-        (
-            &[(SLOTS, b"\xFF\xFF\xFF\xFF"), (NAME, b"\0")],
-            Some(PeFault::Name),
-        ),
-        (&[(SLOTS, b"\xFF\xFF\xFF\xFF"), (THUNKS, b"\0\0\0\0")], None),
-        // a library's name: unmapped, empty, with other bytes; before FirstThunk and the words
-        (&[(LIBRARY, b"\x54\x20")], Some(PeFault::Name)),
-        (&[(LIBRARY, b"\xFF\xFF\xFF\xFF")], Some(PeFault::Name)),
-        (&[(LIBRARY, b"\x45")], Some(PeFault::Name)),
-        (&[(LIBRARY, b"\x44")], None),
-        (&[(LIBRARY_NAME, b" ")], Some(PeFault::Name)),
-        (&[(LIBRARY_NAME, b"\x7F")], Some(PeFault::Name)),
-        (&[(LIBRARY_NAME, b"~")], None),
-        (
-            &[(LIBRARY, b"\x54\x20"), (SLOTS, b"\0\0")],
-            Some(PeFault::Name),
-        ),
-        (
-            &[(LIBRARY, b"\x54\x20"), (LIST, b"\xFF\xFF\xFF\xFF")],
-            Some(PeFault::Name),
-        ),
-        (&[(SLOTS, b"\0\0"), (NAME, b"\0")], Some(PeFault::Imports)),
-        // an import's name: unmapped, empty, not ended in its segment, ended by the zeros after its file bytes
-        (&[(THUNKS, b"\x52\x20")], Some(PeFault::Name)),
-        (&[(THUNKS, b"\xFF\xFF\xFF\x7F")], Some(PeFault::Name)),
-        (&[(NAME, b"\0")], Some(PeFault::Name)),
-        (&[(NAME, b"\x80")], Some(PeFault::Name)),
-        (&[(372, b"x")], Some(PeFault::Name)),
-        (&[(372, b"x"), (IDATA + VIRTUAL_SIZE, b"\x55")], None),
-        (&[(THUNKS + 4, b"\xFF\xFF\xFF\xFF")], None),
-        (&[(CODE_PLACE, b"ab\0"), (THUNKS, b"\xFE\x0F")], None),
-        (
-            &[(CODE_PLACE, b"abcdefghi"), (THUNKS, b"\xFE\x0F")],
-            Some(PeFault::Name),
-        ),
-        (
-            &[(LIST, b"\x08\x10"), (CODE_PLACE + 8, b"\x01")],
-            Some(PeFault::Imports),
-        ),
-    ];
-    for (i, (patches, want)) in cases.iter().enumerate() {
-        let mut file = form_p(alloc, &CODE)?;
-        for (at, bytes) in *patches {
-            put(&mut file, *at, bytes);
+    for line in DAMAGED.lines() {
+        if let Some((places, name)) = line.split_once('|') {
+            let mut file = form_p(alloc, &CODE)?;
+            damage(alloc, &mut file, places)?;
+            assert_eq!(rt; outcome(alloc, &file), fault_named(name), "{line}");
         }
-        assert_eq!(rt; outcome(alloc, &file), *want, "case {i}");
     }
     Ok(())
 }

@@ -1,5 +1,5 @@
 -- Pieces that use no byte outside their file, and the faults of a layout.
-use Rattle.std.proofs.Common.{ℕ, ◌≡◌, ◌<◌, Bool, true, false, cond, List, [], ◌∷◌, length, filter, map, get_or, Option, Some, None, ap, ◌∙◌, sym, refl, All}
+use Rattle.std.proofs.Common.{ℕ, ◌≡◌, ◌<◌, Bool, true, false, cond, List, [], ◌∷◌, length, filter, map, get_or, Option, Some, ap, ◌∙◌, refl, All}
 use Rattle.std.specs.Prelude.{◌&&◌, ◌==◌, not}
 use Rattle.std.specs.List.{list_all, list_any}
 use Rattle.std.specs.Option.{option_map}
@@ -11,7 +11,7 @@ use Rattle.file_pieces.specs.Found.{passes_end}
 use Rattle.file_pieces.specs.Layout.{IsPiece, is_mapped, layout, range_of_piece}
 use Rattle.file_pieces.proofs.Layouts.{length-bytes_of}
 use Rattle.file_pieces.specs.declared.piece.Piece.{Piece}
-use Rattle.pe_headers.specs.Layout.{IsSized, pieces, ranges_of, uses_bytes_outside, layout_fault, fault_of_map, maps_bytes}
+use Rattle.pe_headers.specs.Layout.{IsSized, ranges_of, uses_bytes_outside, layout_fault, fault_of_map, maps_bytes}
 use Rattle.pe_headers.specs.declared.fault.PeFault.TheVariants.{RawOutside}
 
 -- what is so of no element is not so of the one at an index

@@ -1,5 +1,5 @@
 -- The fields of a 32-bit executable for Windows, by their names in the PE/COFF specification. A place is counted from the file's first byte.
-use Rattle.std.specs.Prelude.{ℕ, ◌+◌, ◌*◌, List}
+use Rattle.std.specs.Prelude.{ℕ, ◌+◌, ◌*◌, ◌%◌, ◌^◌, List}
 use Rattle.memory_map.specs.FileBytes.{half_at, word_at}
 
 -- "MS-DOS Stub (Image Only)" and "Signature (Image Only)": the place of the signature
@@ -72,3 +72,7 @@ pointer_to_raw_data bytes at = word_at bytes (at + 20)
 
 abbrev pub characteristics : List ℕ → ℕ → ℕ
 characteristics bytes at = word_at bytes (at + 36)
+
+-- the address of a place that is counted from the image's base, a relative virtual address
+abbrev pub address_from : ℕ → ℕ → ℕ
+address_from base rva = (base + rva) % 2 ^ 32

@@ -1,5 +1,5 @@
 -- What the headers map of a file, and the faults of that.
-use Rattle.std.specs.Prelude.{ℕ, ◌≤◌, ◌<◌, ◌+◌, ◌%◌, ◌^◌, List, ◌∷◌, Bool, false, not, ◌&&◌, ◌==◌, nat_le, length, map, min, bit_and, Option, Some, None, if◌then◌else◌}
+use Rattle.std.specs.Prelude.{ℕ, ◌≤◌, ◌<◌, ◌+◌, ◌^◌, List, ◌∷◌, Bool, false, not, ◌&&◌, ◌==◌, nat_le, length, map, min, bit_and, Option, Some, None, if◌then◌else◌}
 use Rattle.std.specs.List.{list_any, range_with_len}
 use Rattle.std.specs.Option.{option_map}
 use Rattle.memory_map.specs.Range.{Range}
@@ -10,7 +10,7 @@ use Rattle.memory_map.specs.declared.fault.MapFault.TheVariants as map_faults
 use Rattle.file_pieces.specs.Found.{passes_end}
 use Rattle.file_pieces.specs.Layout.{layout}
 use Rattle.file_pieces.specs.declared.piece.Piece.{Piece}
-use Rattle.pe_headers.specs.Headers.{size_of_optional_header, address_of_entry_point, image_base, size_of_headers, number_of_rva_and_sizes, import_table, number_of_sections, section_header, virtual_size, virtual_address, size_of_raw_data, pointer_to_raw_data, characteristics}
+use Rattle.pe_headers.specs.Headers.{address_from, size_of_optional_header, address_of_entry_point, image_base, size_of_headers, number_of_rva_and_sizes, import_table, number_of_sections, section_header, virtual_size, virtual_address, size_of_raw_data, pointer_to_raw_data, characteristics}
 use Rattle.pe_headers.specs.Faults.{header_fault}
 use Rattle.pe_headers.specs.declared.fault.PeFault.{PeFault}
 use Rattle.pe_headers.specs.declared.fault.PeFault.TheVariants.{RawOutside, Address, Overlap, TooLarge, Memory}
@@ -84,12 +84,8 @@ first_of (Some fault) second = Some fault
 unfoldable pub file_fault : List ℕ → Option PeFault
 file_fault bytes = first_of (header_fault bytes) (layout_fault bytes)
 
--- the address of a place that a field counts from the image's base
-abbrev pub address_of : List ℕ → ℕ → ℕ
-address_of bytes rva = (image_base bytes + rva) % 2 ^ 32
-
 abbrev pub entry_of : List ℕ → ℕ
-entry_of bytes = address_of bytes (address_of_entry_point bytes)
+entry_of bytes = address_from (image_base bytes) (address_of_entry_point bytes)
 
 -- the place of the import directory, where there is one
 abbrev pub import_directory : List ℕ → Option ℕ

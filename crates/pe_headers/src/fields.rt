@@ -1,5 +1,5 @@
 ghost use Rattle.std.specs.Prelude.{◌≡◌, ◌+◌, ◌≤◌, ◌<◌, ◌^◌, length};
-ghost use Rattle.pe_headers.specs.Headers.{e_lfanew, size_of_optional_header, optional_header, image_base, size_of_headers, number_of_sections, section_table};
+ghost use Rattle.pe_headers.specs.Headers.{address_from, e_lfanew, size_of_optional_header, optional_header, image_base, size_of_headers, number_of_sections, section_table};
 ghost use Rattle.pe_headers.specs.Faults.{HasHeaders};
 ghost use Rattle.pe_headers.specs.Layout.{entry_of, import_directory};
 
@@ -71,12 +71,22 @@ pub fn headers_size(bytes: &[u8]) -> u32
     word_at(bytes, optional_header(bytes) + 60)
 }
 
+/// The address of a place that is counted from the image's base.
+pub fn address_from(base: u32, rva: u32) -> u32
+    ensures { result ≡ address_from base rva }
+{
+    base.wrapping_add(rva)
+}
+
 /// The address of the first instruction.
 pub fn entry(bytes: &[u8]) -> u32
     requires { HasHeaders bytes.now }
     ensures { result ≡ entry_of bytes.now }
 {
-    image_base(bytes).wrapping_add(word_at(bytes, optional_header(bytes) + 16))
+    address_from(
+        image_base(bytes),
+        word_at(bytes, optional_header(bytes) + 16),
+    )
 }
 
 /// The place of the import directory, counted from the image's base, where there is one.

@@ -1,4 +1,4 @@
-use Rattle.std.proofs.Common.{◌≡◌, ◌∙◌, sym, ap, inr, inl, ⊎_elim, ℕ, List, length, false, true, Some, None}
+use Rattle.std.proofs.Common.{◌≡◌, ◌∙◌, sym, ap, inr, inl, ⊎_elim, List, length, false, true, Some, None}
 use Rattle.std.specs.List.{list_all, list_any}
 use Rattle.memory_map.specs.Map.{map_fault}
 use Rattle.file_pieces.specs.Found.{passes_end}

@@ -2,7 +2,7 @@ use Rattle.std.proofs.Common.{◌≡◌, ◌+◌, ◌-◌, ◌*◌, map}
 use Rattle.memory_map.specs.Map.{range_of}
 use Rattle.pe32_reader.specs.Imports.{each_entry, descriptor_step, descriptors, MOST_DESCRIPTORS}
 use Rattle.pe32_reader.specs.Walk.{seen_by, HasSlots}
-use Rattle.pe32_reader.proofs.imports.Imported.take_descriptors.Given as goal
+use Rattle.pe32_reader.proofs.imports.ImportTable.take_descriptors.Given as goal
 
 abbrev pub invariant-loop-i : goal.invariant-loop-i
 invariant-loop-i l = record {

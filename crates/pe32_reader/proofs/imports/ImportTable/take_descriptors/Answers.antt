@@ -7,7 +7,7 @@ use Rattle.pe_headers.specs.declared.fault.PeFault.{PeFault}
 use Rattle.pe32_reader.specs.Imports.{each_entry, descriptor_step, descriptor_of, descriptors, MOST_DESCRIPTORS}
 use Rattle.pe32_reader.specs.Walk.{seen_by}
 use Rattle.pe32_reader.proofs.Walks.{each-broken, each-ended, each-goes, each-fails, descriptors-none, descriptors-end, descriptors-next, descriptors-over}
-use Rattle.pe32_reader.proofs.imports.Imported.take_descriptors.Goals as goal
+use Rattle.pe32_reader.proofs.imports.ImportTable.take_descriptors.Goals as goal
 
 pub returns-in-None-clause-exact : goal.returns-in-None-clause-exact
 returns-in-None-clause-exact c =

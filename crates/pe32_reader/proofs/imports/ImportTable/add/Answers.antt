@@ -2,7 +2,7 @@ use Rattle.std.proofs.Common.{◌≡◌, ◌+◌, ◌∷◌, [], ap, length, ari
 use Rattle.std.proofs.lemmas.List.{length-append}
 use Rattle.pe32_reader.specs.declared.slots.Slot.{Slot}
 use Rattle.pe32_reader.proofs.Named.{length-with_name}
-use Rattle.pe32_reader.proofs.imports.Imported.add.Goals as goal
+use Rattle.pe32_reader.proofs.imports.ImportTable.add.Goals as goal
 
 pub import_place-place-requires : goal.import_place-place-requires
 import_place-place-requires c =

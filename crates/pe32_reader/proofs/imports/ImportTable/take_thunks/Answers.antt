@@ -8,7 +8,7 @@ use Rattle.pe_headers.specs.declared.fault.PeFault.{PeFault}
 use Rattle.pe32_reader.specs.Imports.{each_entry, thunk_step, thunks, Thunk, TOO_MANY_THUNKS}
 use Rattle.pe32_reader.specs.Walk.{seen_by}
 use Rattle.pe32_reader.proofs.Walks.{each-broken, each-ended, each-goes, each-fails, thunks-none, thunks-zero, thunks-word, thunks-over}
-use Rattle.pe32_reader.proofs.imports.Imported.take_thunks.Goals as goal
+use Rattle.pe32_reader.proofs.imports.ImportTable.take_thunks.Goals as goal
 
 pub returns-in-None-clause-exact : goal.returns-in-None-clause-exact
 returns-in-None-clause-exact c =
