@@ -148,6 +148,7 @@ fn the_worked_file_is_laid_out(rt: HostRuntime) -> Result<(), Fail> {
     let alloc = rt.alloc();
     let file = form_p(alloc, &CODE)?;
     assert_eq!(rt; file.len(), 373);
+    let headers = file.get(..280).ok_or("too short")?;
     let mut data = file[289..].to_vec(alloc)?;
     put(&mut data, 0x34, &[0x10, 0, 0, 0xF0, 0x20, 0, 0, 0xF0]);
     let Ok(image) = read_pe(alloc, &file) else {
@@ -158,7 +159,7 @@ fn the_worked_file_is_laid_out(rt: HostRuntime) -> Result<(), Fail> {
     let segments = image.segments.as_slice();
     assert_eq!(rt; segments.len(), 3);
     for (segment, (low, bytes, perm)) in segments.iter().zip([
-        (0x0040_0000, &file[..280], Perm::new(false, false)),
+        (0x0040_0000, headers, Perm::new(false, false)),
         (0x0040_1000, CODE.as_slice(), Perm::new(false, true)),
         (0x0040_2000, data.as_slice(), Perm::new(true, false)),
     ]) {
