@@ -1,5 +1,5 @@
 -- What is found in one range is as long as was asked for, and lies below 2^32.
-use Rattle.std.proofs.Common.{ℕ, ◌≡◌, ◌≢◌, ◌+◌, ◌-◌, ◌≤◌, ◌<◌, ◌^◌, Bool, true, false, List, [], ◌∷◌, length, take, drop, Option, Some, None, refl, sym, ap, ◌∙◌, arith, All}
+use Rattle.std.proofs.Common.{ℕ, ◌≡◌, ◌≢◌, ◌+◌, ◌-◌, ◌≤◌, Bool, true, false, List, [], ◌∷◌, length, take, drop, Option, Some, None, refl, ap, ◌∙◌, arith, All}
 use Rattle.std.specs.Prelude.{◌||◌, nat_le, find}
 use Rattle.std.specs.List.{list_any}
 use Rattle.std.proofs.lemmas.Bool.{leb-true}
@@ -7,7 +7,7 @@ use Rattle.std.proofs.lemmas.List.{length-take, length-drop}
 use Rattle.std.proofs.lemmas.List.Elements.{All-head, All-tail}
 use Rattle.memory_map.specs.Range.{Range, end_of, USER_END, IsInUserSpace}
 use Rattle.memory_map.proofs.Faults.{and-parts}
-use Rattle.file_pieces.specs.Found.{bytes_at, holds, is_in_one}
+use Rattle.file_pieces.specs.Found.{bytes_at, holds}
 use Rattle.file_pieces.proofs.Lookups.{held, bytes_at-found, bytes_at-none}
 
 pub length-bytes_at : (ranges : List Range) (a n : ℕ) (bytes : List ℕ) → n ≢ 0 → Some bytes ≡ bytes_at ranges a n → length bytes ≡ n

@@ -1,12 +1,11 @@
 -- The image of a file without a fault of its headers and of what they map.
 use Rattle.std.proofs.Common.{ℕ, ◌≡◌, List, Option, Some, None, Result, Ok, Err, sym, ap, ◌∙◌}
 use Rattle.memory_map.specs.Range.{Range}
-use Rattle.memory_map.specs.Map.{map_fault}
 use Rattle.pe_headers.specs.Headers.{image_base}
 use Rattle.pe_headers.specs.Layout.{ranges_of, file_fault, import_directory}
 use Rattle.pe_headers.specs.declared.fault.PeFault.{PeFault}
 use Rattle.pe32_reader.specs.Imports.{Imported, imports_of, and_then}
-use Rattle.pe32_reader.specs.Image.{PeImage, image_of, image_unless, image_with}
+use Rattle.pe32_reader.specs.Image.{image_of, image_unless, image_with}
 
 module _ (file : List ℕ) where
   pub image_of-fault : (fault : PeFault) → file_fault file ≡ Some fault → image_of file ≡ Err fault

@@ -1,6 +1,6 @@
 -- The imports of an image (PE/COFF specification, "The .idata Section"): for each library a descriptor, with a list of thunk words that say what is imported, and as many slots.
 -- Addresses grow from entry to entry without passing 2^32: an entry is read only where it is in one segment, and segments end below.
-use Rattle.std.specs.Prelude.{ℕ, zero, suc, ◌+◌, ◌*◌, ◌%◌, ◌^◌, List, [], ◌∷◌, ◌++◌, ◌==◌, nat_le, length, Option, Some, None, Result, Ok, Err, codes, decimal, if◌then◌else◌}
+use Rattle.std.specs.Prelude.{ℕ, zero, suc, ◌+◌, ◌*◌, ◌%◌, List, [], ◌∷◌, ◌++◌, ◌==◌, nat_le, length, Option, Some, None, Result, Ok, Err, codes, decimal, if◌then◌else◌}
 use Rattle.std.specs.List.{list_all}
 use Rattle.std.specs.Option.{option_map}
 use Rattle.memory_map.specs.FileBytes.{word_at}

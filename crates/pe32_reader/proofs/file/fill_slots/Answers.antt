@@ -1,4 +1,4 @@
-use Rattle.std.proofs.Common.{◌≡◌, map}
+use Rattle.std.proofs.Common.{map}
 use Rattle.memory_map.specs.Map.{range_of}
 use Rattle.pe32_reader.proofs.Filled.{mapped-filled, no_fault}
 use Rattle.pe32_reader.proofs.file.fill_slots.Goals as goal

@@ -1,11 +1,9 @@
-use Rattle.std.proofs.Common.{◌≡◌, ◌∙◌, sym, ap, map, List, ℕ, inl, inr, ⊎_elim, Ok, Err, None, Some, Option, Bool, true}
+use Rattle.std.proofs.Common.{◌∙◌, sym, ap, map, inl, inr, ⊎_elim, Ok}
 use Rattle.std.specs.List.{list_all}
-use Rattle.std.specs.Option.{option_map}
 use Rattle.std.proofs.lemmas.Result.{err_from_is_err_and}
-use Rattle.memory_map.specs.Map.{range_of, map_fault}
+use Rattle.memory_map.specs.Map.{range_of}
 use Rattle.pe_headers.specs.Layout.{maps_bytes, ranges_of, entry_of}
-use Rattle.pe_headers.specs.Headers.{image_base}
-use Rattle.pe32_reader.specs.Image.{PeImage, with_slots}
+use Rattle.pe32_reader.specs.Image.{with_slots}
 use Rattle.pe32_reader.proofs.Images.{image_of-fault, image_of-imports}
 use Rattle.pe32_reader.proofs.file.read_pe.Goals as goal
 

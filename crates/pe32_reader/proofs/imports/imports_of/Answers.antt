@@ -1,4 +1,4 @@
-use Rattle.std.proofs.Common.{◌≡◌, map, sym, ap, ◌∙◌, inl, inr, ⊎_elim, Ok}
+use Rattle.std.proofs.Common.{map, sym, ap, ◌∙◌, inl, inr, ⊎_elim, Ok}
 use Rattle.std.proofs.lemmas.Result.{err_from_is_err_and}
 use Rattle.memory_map.specs.Map.{range_of}
 use Rattle.pe32_reader.proofs.Walks.{imports_of-none, imports_of-some}

@@ -1,6 +1,5 @@
-use Rattle.std.proofs.Common.{◌≡◌, ◌+◌, ◌≤◌, ◌∙◌, sym, ap, subst, true, All, List, map, arith}
+use Rattle.std.proofs.Common.{◌≡◌, ◌∙◌, sym, true, map, arith}
 use Rattle.std.specs.List.{list_any}
-use Rattle.memory_map.specs.Range.{Range, USER_END, IsInUserSpace}
 use Rattle.memory_map.specs.Map.{range_of}
 use Rattle.file_pieces.specs.Found.{holds}
 use Rattle.pe32_reader.proofs.Found.{in_one-below}

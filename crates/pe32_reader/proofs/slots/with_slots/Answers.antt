@@ -1,4 +1,4 @@
-use Rattle.std.proofs.Common.{◌≡◌, ◌∙◌, sym, ap, map, get_or, List, arith}
+use Rattle.std.proofs.Common.{◌∙◌, ap, map, get_or, List, arith}
 use Rattle.std.proofs.lemmas.List.{with_items_is}
 use Rattle.memory_map.specs.Map.{range_of}
 use Rattle.memory_map.specs.declared.segment.Segment.{Segment}

@@ -1,4 +1,4 @@
-use Rattle.std.proofs.Common.{◌≡◌, ◌+◌, ◌∷◌, [], ap, length, arith}
+use Rattle.std.proofs.Common.{◌∷◌, [], ap, length, arith}
 use Rattle.std.proofs.lemmas.List.{length-append}
 use Rattle.pe32_reader.specs.declared.slots.Slot.{Slot}
 use Rattle.pe32_reader.proofs.Named.{length-with_name}

@@ -1,9 +1,8 @@
-use Rattle.std.proofs.Common.{◌≡◌, ◌+◌, ◌-◌, ◌*◌, ℕ, List, map, Option, Some, None, Result, sym, ap, ◌∙◌, arith, inl, inr, ⊎_elim}
+use Rattle.std.proofs.Common.{◌≡◌, ◌+◌, ◌-◌, ◌*◌, map, Some, sym, ap, ◌∙◌, arith, inl, inr, ⊎_elim}
 use Rattle.std.specs.Option.{option_map}
 use Rattle.std.proofs.lemmas.Result.{err_from_is_err_and}
 use Rattle.memory_map.specs.Map.{range_of}
 use Rattle.file_pieces.specs.Found.{bytes_at}
-use Rattle.pe_headers.specs.declared.fault.PeFault.{PeFault}
 use Rattle.pe32_reader.specs.Imports.{each_entry, descriptor_step, descriptor_of, descriptors, MOST_DESCRIPTORS}
 use Rattle.pe32_reader.specs.Walk.{seen_by}
 use Rattle.pe32_reader.proofs.Walks.{each-broken, each-ended, each-goes, each-fails, descriptors-none, descriptors-end, descriptors-next, descriptors-over}

@@ -1,11 +1,10 @@
-use Rattle.std.proofs.Common.{◌≡◌, ◌+◌, ◌-◌, ◌*◌, ℕ, List, map, Option, Some, Result, sym, ap, ◌∙◌, arith, inl, inr, ⊎_elim}
+use Rattle.std.proofs.Common.{◌≡◌, ◌+◌, ◌-◌, ◌*◌, map, sym, ap, ◌∙◌, arith, inl, inr, ⊎_elim}
 use Rattle.std.specs.Option.{option_map}
 use Rattle.std.proofs.lemmas.Result.{err_from_is_err_and}
 use Rattle.memory_map.specs.FileBytes.{word_at}
 use Rattle.memory_map.specs.Map.{range_of}
 use Rattle.file_pieces.specs.Found.{bytes_at}
-use Rattle.pe_headers.specs.declared.fault.PeFault.{PeFault}
-use Rattle.pe32_reader.specs.Imports.{each_entry, thunk_step, thunks, Thunk, TOO_MANY_THUNKS}
+use Rattle.pe32_reader.specs.Imports.{each_entry, thunk_step, thunks, TOO_MANY_THUNKS}
 use Rattle.pe32_reader.specs.Walk.{seen_by}
 use Rattle.pe32_reader.proofs.Walks.{each-broken, each-ended, each-goes, each-fails, thunks-none, thunks-zero, thunks-word, thunks-over}
 use Rattle.pe32_reader.proofs.imports.ImportTable.take_thunks.Goals as goal
