@@ -1,0 +1,5 @@
+pub mod Walks
+pub mod Found
+pub mod Named
+pub mod Filled
+pub mod Images
