@@ -1,0 +1,96 @@
+-- The faults of a document.
+use Rattle.std.specs.Prelude.{ℕ, ◌&&◌, ◌||◌, if◌then◌else◌, Bool, true, false, not, List, [], ◌∷◌, Option, Some, None, codes, nat_lt, bytes_eq, count_by, find, unwrap_or, option_and_then}
+use Rattle.std.specs.List.{list_any}
+use Rattle.std.specs.Option.{option_map_or, option_or}
+use Rattle.memory_map.specs.Name.{is_name}
+use Rattle.toml.specs.Data.{Data, as_table, Members, no_members, member}
+use Rattle.stub_file.specs.Document.{keys_in, items_at, number_at, text_at, value_at}
+use Rattle.stub_file.specs.Keys.{key_name}
+use Rattle.stub_file.specs.Rules.{belongs, has_type, is_choice, is_in_range, is_present, is_required}
+use Rattle.stub_file.specs.declared.fault.StubFault.{StubFault}
+use Rattle.stub_file.specs.declared.fault.StubFault.TheVariants.{UnknownKey, WrongKind, OutOfRange, Both}
+use Rattle.stub_file.specs.declared.keys.Key.TheVariants as key
+use Rattle.stub_file.specs.declared.keys.Rule.{Rule}
+use Rattle.stub_file.specs.declared.keys.TheConstants.{TOP_KEYS, STUB_KEYS, WRITE_KEYS}
+
+-- some key has no rule
+abbrev pub has_unknown_key : List Rule → Members → Bool
+has_unknown_key rules t = list_any (λ name. not (list_any (λ rule. bytes_eq (key_name rule.key) name) rules)) (keys_in t)
+
+-- a value of a wrong type, a required key that is missing, or all choices missing
+abbrev pub is_wrong : Members → Rule → Bool
+is_wrong t rule = option_map_or (λ d. not (has_type rule.kind d)) (value_at rule.key t) false
+
+abbrev pub is_missing : List ℕ → Members → Rule → Bool
+is_missing reply t rule = is_required rule && belongs reply rule && not (is_present t rule)
+
+abbrev pub lacks_choice : List Rule → List ℕ → Members → Bool
+lacks_choice rules reply t =
+    list_any (λ rule. is_choice rule && belongs reply rule) rules
+    && not (list_any (λ rule. is_choice rule && is_present t rule) rules)
+
+abbrev pub has_wrong_kind : List Rule → List ℕ → Members → Bool
+has_wrong_kind rules reply t =
+    list_any (is_wrong t) rules || list_any (is_missing reply t) rules || lacks_choice rules reply t
+
+-- a value out of its range
+abbrev pub is_out : ℕ → Members → Rule → Bool
+is_out args t rule = option_map_or (λ d. not (is_in_range args rule.kind d)) (value_at rule.key t) false
+
+abbrev pub is_out_of_range : List Rule → ℕ → Members → Bool
+is_out_of_range rules args t = list_any (is_out args t) rules
+
+-- a key of another reply, or two choices
+abbrev pub has_both : List Rule → List ℕ → Members → Bool
+has_both rules reply t =
+    list_any (λ rule. is_present t rule && not (belongs reply rule)) rules
+    || nat_lt 1 (count_by (λ rule. is_choice rule && is_present t rule) rules)
+
+-- whether a table has the fault, where its stub has this reply and so many bytes of arguments
+abbrev pub table_has : List Rule → List ℕ → ℕ → StubFault → Members → Bool
+table_has rules reply args UnknownKey t = has_unknown_key rules t
+table_has rules reply args WrongKind t = has_wrong_kind rules reply t
+table_has rules reply args OutOfRange t = is_out_of_range rules args t
+table_has rules reply args Both t = has_both rules reply t
+table_has rules reply args _ t = false
+
+-- the reply of a stub, and the bytes of its arguments
+abbrev pub reply_of : Members → List ℕ
+reply_of t = unwrap_or (text_at key.Reply t) []
+
+abbrev pub args_of : Members → ℕ
+args_of t = unwrap_or (number_at key.Args t) 0
+
+-- whether the table of a stub, or one of those in its `writes`, has the fault
+abbrev pub stub_has : StubFault → Members → Bool
+stub_has fault t =
+    table_has STUB_KEYS (reply_of t) (args_of t) fault t
+    || list_any (λ d. option_map_or (table_has WRITE_KEYS (reply_of t) (args_of t) fault) (as_table d) false) (items_at key.Writes t)
+
+abbrev pub first_fault : (StubFault → Bool) → Option StubFault
+first_fault has = find has (UnknownKey ∷ WrongKind ∷ OutOfRange ∷ Both ∷ [])
+
+-- the first fault of a stub with this name
+abbrev pub table_fault : Option Members → Option StubFault
+table_fault None = Some WrongKind
+table_fault (Some t) = first_fault (λ fault. stub_has fault t)
+
+unfoldable pub stub_fault : List ℕ → Data → Option StubFault
+stub_fault name d = if is_name name then table_fault (as_table d) else Some UnknownKey
+
+-- the first fault of the first stub that has one
+abbrev pub stubs_fault : Members → Option StubFault
+stubs_fault no_members = None
+stubs_fault (member name d t) = option_or (stub_fault name d) (stubs_fault t)
+
+-- the first fault at the top level
+unfoldable pub top_fault : Members → Option StubFault
+top_fault t = first_fault (λ fault. table_has TOP_KEYS [] 0 fault t)
+
+-- the stubs of a document
+abbrev pub stubs_in : Members → Members
+stubs_in t = unwrap_or (option_and_then as_table (value_at key.Stub t)) no_members
+
+-- the first fault of a document
+unfoldable pub document_fault : Members → Option StubFault
+document_fault t = option_or (top_fault t) (stubs_fault (stubs_in t))

@@ -1,0 +1,4 @@
+pub mod Keys
+pub mod Document
+pub mod Rules
+pub mod Faults
