@@ -1,5 +1,5 @@
 -- The faults of a document.
-use Rattle.std.specs.Prelude.{ℕ, ◌&&◌, ◌||◌, if◌then◌else◌, Bool, true, false, not, List, [], ◌∷◌, Option, Some, None, codes, nat_lt, bytes_eq, count_by, find, unwrap_or, option_and_then}
+use Rattle.std.specs.Prelude.{ℕ, ◌==◌, ◌&&◌, ◌||◌, if◌then◌else◌, Bool, true, false, not, List, [], ◌∷◌, Option, Some, None, codes, nat_lt, bytes_eq, count_by, find, unwrap_or, option_and_then}
 use Rattle.std.specs.List.{list_any}
 use Rattle.std.specs.Option.{option_map_or, option_or}
 use Rattle.memory_map.specs.Name.{is_name}
@@ -9,45 +9,59 @@ use Rattle.stub_file.specs.Keys.{key_name}
 use Rattle.stub_file.specs.Rules.{belongs, has_type, is_choice, is_in_range, is_present, is_required}
 use Rattle.stub_file.specs.declared.fault.StubFault.{StubFault}
 use Rattle.stub_file.specs.declared.fault.StubFault.TheVariants.{UnknownKey, WrongKind, OutOfRange, Both}
+use Rattle.stub_file.specs.declared.fault.TheConstants.{FAULTS}
 use Rattle.stub_file.specs.declared.keys.Key.TheVariants as key
 use Rattle.stub_file.specs.declared.keys.Rule.{Rule}
 use Rattle.stub_file.specs.declared.keys.TheConstants.{TOP_KEYS, STUB_KEYS, WRITE_KEYS}
 
 -- some key has no rule
-abbrev pub has_unknown_key : List Rule → Members → Bool
-has_unknown_key rules t = list_any (λ name. not (list_any (λ rule. bytes_eq (key_name rule.key) name) rules)) (keys_in t)
+abbrev pub has_rule : List Rule → List ℕ → Bool
+has_rule rules name = list_any (λ rule. bytes_eq (key_name rule.key) name) rules
 
--- a value of a wrong type, a required key that is missing, or all choices missing
+unfoldable pub has_unknown_key : List Rule → Members → Bool
+has_unknown_key rules t = list_any (λ name. not (has_rule rules name)) (keys_in t)
+
+-- some value has a wrong type
 abbrev pub is_wrong : Members → Rule → Bool
 is_wrong t rule = option_map_or (λ d. not (has_type rule.kind d)) (value_at rule.key t) false
 
+unfoldable pub has_wrong_type : List Rule → Members → Bool
+has_wrong_type rules t = list_any (is_wrong t) rules
+
+-- some required key is missing
 abbrev pub is_missing : List ℕ → Members → Rule → Bool
 is_missing reply t rule = is_required rule && belongs reply rule && not (is_present t rule)
 
-abbrev pub lacks_choice : List Rule → List ℕ → Members → Bool
-lacks_choice rules reply t =
-    list_any (λ rule. is_choice rule && belongs reply rule) rules
-    && not (list_any (λ rule. is_choice rule && is_present t rule) rules)
+unfoldable pub lacks_required : List Rule → List ℕ → Members → Bool
+lacks_required rules reply t = list_any (is_missing reply t) rules
 
-abbrev pub has_wrong_kind : List Rule → List ℕ → Members → Bool
+-- there are choices, and none was made
+unfoldable pub has_choices : List Rule → List ℕ → Bool
+has_choices rules reply = list_any (λ rule. is_choice rule && belongs reply rule) rules
+
+unfoldable pub choices_made : List Rule → Members → ℕ
+choices_made rules t = count_by (λ rule. is_choice rule && is_present t rule) rules
+
+unfoldable pub has_wrong_kind : List Rule → List ℕ → Members → Bool
 has_wrong_kind rules reply t =
-    list_any (is_wrong t) rules || list_any (is_missing reply t) rules || lacks_choice rules reply t
+    has_wrong_type rules t || lacks_required rules reply t || (has_choices rules reply && choices_made rules t == 0)
 
--- a value out of its range
+-- some value is out of its range
 abbrev pub is_out : ℕ → Members → Rule → Bool
 is_out args t rule = option_map_or (λ d. not (is_in_range args rule.kind d)) (value_at rule.key t) false
 
-abbrev pub is_out_of_range : List Rule → ℕ → Members → Bool
+unfoldable pub is_out_of_range : List Rule → ℕ → Members → Bool
 is_out_of_range rules args t = list_any (is_out args t) rules
 
 -- a key of another reply, or two choices
-abbrev pub has_both : List Rule → List ℕ → Members → Bool
-has_both rules reply t =
-    list_any (λ rule. is_present t rule && not (belongs reply rule)) rules
-    || nat_lt 1 (count_by (λ rule. is_choice rule && is_present t rule) rules)
+unfoldable pub has_other_reply : List Rule → List ℕ → Members → Bool
+has_other_reply rules reply t = list_any (λ rule. is_present t rule && not (belongs reply rule)) rules
+
+unfoldable pub has_both : List Rule → List ℕ → Members → Bool
+has_both rules reply t = has_other_reply rules reply t || nat_lt 1 (choices_made rules t)
 
 -- whether a table has the fault, where its stub has this reply and so many bytes of arguments
-abbrev pub table_has : List Rule → List ℕ → ℕ → StubFault → Members → Bool
+unfoldable pub table_has : List Rule → List ℕ → ℕ → StubFault → Members → Bool
 table_has rules reply args UnknownKey t = has_unknown_key rules t
 table_has rules reply args WrongKind t = has_wrong_kind rules reply t
 table_has rules reply args OutOfRange t = is_out_of_range rules args t
@@ -55,28 +69,32 @@ table_has rules reply args Both t = has_both rules reply t
 table_has rules reply args _ t = false
 
 -- the reply of a stub, and the bytes of its arguments
-abbrev pub reply_of : Members → List ℕ
+unfoldable pub reply_of : Members → List ℕ
 reply_of t = unwrap_or (text_at key.Reply t) []
 
-abbrev pub args_of : Members → ℕ
+unfoldable pub args_of : Members → ℕ
 args_of t = unwrap_or (number_at key.Args t) 0
 
+-- whether an item of `writes` is a table that has the fault
+unfoldable pub write_has : List ℕ → ℕ → StubFault → Data → Bool
+write_has reply args fault d = option_map_or (table_has WRITE_KEYS reply args fault) (as_table d) false
+
 -- whether the table of a stub, or one of those in its `writes`, has the fault
-abbrev pub stub_has : StubFault → Members → Bool
+unfoldable pub stub_has : StubFault → Members → Bool
 stub_has fault t =
     table_has STUB_KEYS (reply_of t) (args_of t) fault t
-    || list_any (λ d. option_map_or (table_has WRITE_KEYS (reply_of t) (args_of t) fault) (as_table d) false) (items_at key.Writes t)
+    || list_any (write_has (reply_of t) (args_of t) fault) (items_at key.Writes t)
 
+-- the faults of a table, in their order
 abbrev pub first_fault : (StubFault → Bool) → Option StubFault
-first_fault has = find has (UnknownKey ∷ WrongKind ∷ OutOfRange ∷ Both ∷ [])
+first_fault has = find has FAULTS
 
 -- the first fault of a stub with this name
-abbrev pub table_fault : Option Members → Option StubFault
-table_fault None = Some WrongKind
-table_fault (Some t) = first_fault (λ fault. stub_has fault t)
+unfoldable pub table_fault : Members → Option StubFault
+table_fault t = first_fault (λ fault. stub_has fault t)
 
 unfoldable pub stub_fault : List ℕ → Data → Option StubFault
-stub_fault name d = if is_name name then table_fault (as_table d) else Some UnknownKey
+stub_fault name d = if is_name name then option_map_or table_fault (as_table d) (Some WrongKind) else Some UnknownKey
 
 -- the first fault of the first stub that has one
 abbrev pub stubs_fault : Members → Option StubFault

@@ -14,18 +14,27 @@ use Rattle.stub_file.specs.declared.keys.Rule.{Rule}
 use Rattle.stub_file.specs.declared.keys.Word.{Word}
 use Rattle.stub_file.specs.declared.keys.TheConstants.{ALIGNMENTS, REPLIES}
 
+-- an array of tables
+abbrev pub items_are_tables : Data → Bool
+items_are_tables d = is_some (as_array d) && list_all (λ item. is_some (as_table item)) (items_of d)
+
 -- the TOML type of a value
 abbrev pub has_type : Kind → Data → Bool
 has_type (kind.Number numbers) d = is_some (as_integer d)
+has_type kind.Bytes d = is_some (as_integer d)
 has_type kind.Alignment d = is_some (as_integer d)
 has_type kind.Index d = is_some (as_integer d)
 has_type kind.Reply d = is_some (as_str d)
 has_type kind.Truth d = is_some (as_bool d)
-has_type kind.Writes d = is_some (as_array d) && list_all (λ item. is_some (as_table item)) (items_of d)
+has_type kind.Writes d = items_are_tables d
 has_type kind.Table d = is_some (as_table d)
 
 abbrev pub is_among : Numbers → ℕ → Bool
-is_among m n = nat_le m.low n && nat_le n m.high && n % m.step == 0
+is_among m n = nat_le m.low n && nat_le n m.high
+
+-- a multiple of 4 up to 64
+abbrev pub is_size_of_arguments : ℕ → Bool
+is_size_of_arguments n = nat_le n 64 && n % 4 == 0
 
 abbrev pub is_alignment : ℕ → Bool
 is_alignment n = list_any (nat_eq n) ALIGNMENTS
@@ -40,6 +49,7 @@ is_reply text = list_any (λ word. bytes_eq (word_name word) text) REPLIES
 -- the range of a value, where the arguments of the stub have so many bytes
 abbrev pub is_in_range : ℕ → Kind → Data → Bool
 is_in_range args (kind.Number numbers) d = option_map_or (is_among numbers) (number_of d) false
+is_in_range args kind.Bytes d = option_map_or is_size_of_arguments (number_of d) false
 is_in_range args kind.Alignment d = option_map_or is_alignment (number_of d) false
 is_in_range args kind.Index d = option_map_or (is_index args) (number_of d) false
 is_in_range args kind.Reply d = option_map_or is_reply (as_str d) false

@@ -1,5 +1,5 @@
-ghost use Rattle.std.specs.Prelude.{◌≡◌, option_map, option_copied};
-ghost use Rattle.stub_file.specs.Document.{number_at, number_of, text_at, truth_at, value_at};
+ghost use Rattle.std.specs.Prelude.{◌≡◌, map, option_map, option_copied};
+ghost use Rattle.stub_file.specs.Document.{items_at, items_of, number_at, number_of, text_at, truth_at, value_at};
 ghost use Rattle.toml.specs.View.{table_view, view};
 
 use crate::keys::Key;
@@ -19,6 +19,16 @@ pub fn number_of(value: &Value) -> Option<u64>
     match value.as_integer() {
         Some(number) if number >= 0 => Some(number as u64),
         _ => None,
+    }
+}
+
+/// The items of an array, and none of any other value.
+pub fn items_of(value: &Value) -> &[Value]
+    ensures { map view result.now ≡ items_of (view value.now) }
+{
+    match value.as_array() {
+        Some(items) => items.as_slice(),
+        None => &[],
     }
 }
 
@@ -46,5 +56,14 @@ pub fn truth_at(table: &Table, key: Key) -> Option<bool>
     match value_at(table, key) {
         Some(value) => value.as_bool(),
         None => None,
+    }
+}
+
+pub fn items_at(table: &Table, key: Key) -> &[Value]
+    ensures { map view result.now ≡ items_at key (table_view table.now) }
+{
+    match value_at(table, key) {
+        Some(value) => items_of(value),
+        None => &[],
     }
 }

@@ -15,3 +15,11 @@ pub enum StubFault {
     /// Want of memory.
     Memory,
 }
+
+/// The faults of a table in their order.
+pub static FAULTS: [StubFault; 4] = [
+    StubFault::UnknownKey,
+    StubFault::WrongKind,
+    StubFault::OutOfRange,
+    StubFault::Both,
+];

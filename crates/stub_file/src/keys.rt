@@ -31,12 +31,11 @@ pub enum Word {
     Enter,
 }
 
-/// The numbers from `low` to `high` that are multiples of `step`.
+/// The numbers from `low` to `high`.
 #[derive(Clone, Copy)]
 pub struct Numbers {
     pub low: u32,
     pub high: u32,
-    pub step: u32,
 }
 
 /// What the value of a key is.
@@ -44,6 +43,8 @@ pub struct Numbers {
 pub enum Kind {
     /// An integer among these numbers.
     Number(Numbers),
+    /// A multiple of 4 from 0 to 64: some bytes of arguments.
+    Bytes,
     /// A power of two from 4 to 4,096.
     Alignment,
     /// The index of an argument.
@@ -88,10 +89,7 @@ macro_rules! rule {
 /// Makes a kind of numbers.
 macro_rules! from {
     ($low:literal to $high:literal) => {
-        from!($low to $high by 1)
-    };
-    ($low:literal to $high:literal by $step:literal) => {
-        Kind::Number(Numbers { low: $low, high: $high, step: $step })
+        Kind::Number(Numbers { low: $low, high: $high })
     };
 }
 
@@ -103,8 +101,8 @@ pub static TOP_KEYS: [Rule; 2] = [
 
 /// The keys of a stub.
 pub static STUB_KEYS: [Rule; 10] = [
-    rule!(Required Args, from!(0 to 64 by 4)),
-    rule!(Optional Cleans, from!(0 to 64 by 4)),
+    rule!(Required Args, Kind::Bytes),
+    rule!(Optional Cleans, Kind::Bytes),
     rule!(Required Reply, Kind::Reply),
     rule!(Required Number, from!(0 to 4_294_967_295), Number),
     rule!(Choice Size, from!(1 to 67_108_864), Block),

@@ -3,7 +3,9 @@
 
 mod document;
 mod fault;
+mod faults;
 mod keys;
+mod rules;
 mod stub;
 
 pub use fault::StubFault;
