@@ -76,14 +76,14 @@ unfoldable pub args_of : Members → ℕ
 args_of t = unwrap_or (number_at key.Args t) 0
 
 -- whether an item of `writes` is a table that has the fault
-unfoldable pub write_has : List ℕ → ℕ → StubFault → Data → Bool
-write_has reply args fault d = option_map_or (table_has WRITE_KEYS reply args fault) (as_table d) false
+unfoldable pub write_has : ℕ → StubFault → Data → Bool
+write_has args fault d = option_map_or (table_has WRITE_KEYS [] args fault) (as_table d) false
 
 -- whether the table of a stub, or one of those in its `writes`, has the fault
 unfoldable pub stub_has : StubFault → Members → Bool
 stub_has fault t =
     table_has STUB_KEYS (reply_of t) (args_of t) fault t
-    || list_any (write_has (reply_of t) (args_of t) fault) (items_at key.Writes t)
+    || list_any (write_has (args_of t) fault) (items_at key.Writes t)
 
 -- the faults of a table, in their order
 abbrev pub first_fault : (StubFault → Bool) → Option StubFault

@@ -2,3 +2,4 @@ pub mod Keys
 pub mod Document
 pub mod Rules
 pub mod Faults
+pub mod Stated

@@ -149,21 +149,21 @@ pub fn args_of(table: &Table) -> u64
 }
 
 #[tactic(auto, unfolding(crate::specs::Faults::write_has))]
-fn write_has(reply: &str, args: u64, fault: StubFault, item: &Value) -> bool
-    ensures { result ≡ write_has reply.now args fault (view item.now) }
+fn write_has(args: u64, fault: StubFault, item: &Value) -> bool
+    ensures { result ≡ write_has args fault (view item.now) }
 {
     match item.as_table() {
-        Some(table) => table_has(&WRITE_KEYS, reply, args, fault, table),
+        Some(table) => table_has(&WRITE_KEYS, "", args, fault, table),
         None => false,
     }
 }
 
-fn some_write_has(items: &[Value], reply: &str, args: u64, fault: StubFault) -> bool
-    ensures { result ≡ list_any (λ item. write_has reply.now args fault (view item)) items.now }
+fn some_write_has(items: &[Value], args: u64, fault: StubFault) -> bool
+    ensures { result ≡ list_any (λ item. write_has args fault (view item)) items.now }
 {
     items
         .iter()
-        .any(|item| write_has(reply, args, fault, item))
+        .any(|item| write_has(args, fault, item))
 }
 
 /// Whether the table of a stub, or one of those in its `writes`, has the fault.
@@ -174,7 +174,7 @@ fn stub_has(fault: StubFault, table: &Table) -> bool
     let reply = reply_of(table);
     let args = args_of(table);
     table_has(&STUB_KEYS, reply, args, fault, table)
-        || some_write_has(items_at(table, Key::Writes), reply, args, fault)
+        || some_write_has(items_at(table, Key::Writes), args, fault)
 }
 
 /// The first fault of a stub's table.

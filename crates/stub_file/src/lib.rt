@@ -1,6 +1,7 @@
 // The stub file: what a TOML document says of the functions that an image imports.
 #![tactic(auto)]
 
+mod build;
 mod document;
 mod fault;
 mod faults;
