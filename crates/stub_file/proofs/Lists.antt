@@ -37,3 +37,9 @@ module _ {A B : Type 0} (R : A → B → Type 0) where
   zip_more xs ys i x y inside is h last =
       let P : List A → Type 0 = λ zs. AllZip R zs (ys ++ y ∷ []) in
       subst P (sym (take_more xs i x inside)) (rw (← is) (zip_push (take i xs) ys x y h last))
+
+pub zip_map : {A B C : Type 0} (f : A → B) (R : B → C → Type 0) (xs : List A) (ys : List C) → AllZip (λ x y. R (f x) y) xs ys → AllZip R (map f xs) ys
+zip_map f R [] [] h = tt
+zip_map f R [] (y ∷ ys) h = elim h [ ]
+zip_map f R (x ∷ xs) [] h = elim h [ ]
+zip_map f R (x ∷ xs) (y ∷ ys) h = (h.0, zip_map f R xs ys h.1)

@@ -1,10 +1,11 @@
 -- What each line of a table of keys says, where no line tells a fault.
-use Rattle.std.proofs.Common.{◌≡◌, ◌∙◌, ap, sym, IsSomeAnd, IsTrue, bytes_eq, unwrap_or, ℕ, zero, suc, Bool, true, false, not, ◌||◌, ◌⊎◌, cond, List, [], ◌∷◌, Option, Some, None, IsSome, is_some, slice_get, option_and_then, refl, inl, inr, find}
+use Rattle.std.proofs.Common.{◌≡◌, ◌∙◌, ap, sym, IsSomeAnd, IsTrue, bytes_eq, unwrap_or, arith, ℕ, ◌≤◌, zero, suc, Bool, true, false, not, ◌||◌, ◌⊎◌, cond, List, [], ◌∷◌, Option, Some, None, IsSome, is_some, slice_get, option_and_then, refl, inl, inr, find}
 use Rattle.std.specs.List.{list_any}
 use Rattle.std.specs.Option.{option_map_or}
 use Rattle.std.proofs.lemmas.Bool.{or_parts, false≢true, not-false}
 use Rattle.std.proofs.lemmas.Slice.Eq.{bytes_eq-Decides}
 use Rattle.toml.specs.Data.{Data}
+use Rattle.stub_file.specs.Document.{number_of}
 use Rattle.stub_file.specs.Keys.{word_name}
 use Rattle.stub_file.specs.Rules.{is_reply}
 use Rattle.stub_file.specs.declared.keys.TheConstants.{REPLIES}
@@ -63,3 +64,27 @@ word_is (Some text) w h found =
 pub word_there : (o : Option (List ℕ)) → IsSomeAnd o (λ text. IsTrue (is_reply text)) → find (is_text (unwrap_or o [])) REPLIES ≡ None → ⊥
 word_there None h missing = elim h [ ]
 word_there (Some text) h missing = false≢true (sym (found_any (is_text text) REPLIES missing) ∙ h)
+
+-- a value in its range, read again
+in_range_of : {X : Type 0} (test : X → Bool) (o : Option X) (x : X) → not (option_map_or test o false) ≡ false → o ≡ Some x → test x ≡ true
+in_range_of test None x h e = cc
+in_range_of {X} test (Some y) x h e = (let same : x ≡ y = cc in rw same (not-false (test y) h))
+
+pub in_range : {X : Type 0} (f : Data → Option X) (test : X → Bool) (o : Option Data) (x : X) → option_map_or (λ d. not (option_map_or test (f d) false)) o false ≡ false
+    → option_and_then f o ≡ Some x → test x ≡ true
+in_range f test None x h e = cc
+in_range f test (Some d) x h e = in_range_of test (f d) x h e
+
+pub absent : {X : Type 0} (f : Data → Option X) (o : Option Data) → is_some o ≡ false → option_and_then f o ≡ None
+absent f None h = refl
+absent f (Some d) h = cc
+
+-- a number that is not there counts as 0
+at_most_of : (test : ℕ → Bool) (limit : ℕ) → ((n : ℕ) → test n ≡ true → n ≤ limit) → (o : Option ℕ) → not (option_map_or test o false) ≡ false → unwrap_or o 0 ≤ limit
+at_most_of test limit bound None e = omega arith
+at_most_of test limit bound (Some n) e = bound n (not-false (test n) e)
+
+pub at_most : (test : ℕ → Bool) (limit : ℕ) (o : Option Data) → ((n : ℕ) → test n ≡ true → n ≤ limit) → option_map_or (λ d. not (option_map_or test (number_of d) false)) o false ≡ false
+    → unwrap_or (option_and_then number_of o) 0 ≤ limit
+at_most test limit None bound h = omega arith
+at_most test limit (Some d) bound h = at_most_of test limit bound (number_of d) h

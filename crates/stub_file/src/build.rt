@@ -119,3 +119,17 @@ fn reply_at(table: &Table) -> Reply
         Word::Enter => Reply::Enter(byte_at(table, Key::EnterArg)),
     }
 }
+
+/// The stub that a table states which has no fault.
+pub fn stub_of(table: &Table) -> Stub
+    requires { table_fault (table_view table.now) ≡ None }
+    ensures stated { IsStubOf (table_view table.now) result }
+    ensures own { IsTrue (has_own_arguments result) }
+{
+    Stub {
+        args: byte_at(table, Key::Args),
+        cleans: byte_at(table, Key::Cleans),
+        reply: reply_at(table),
+        writes: writes_of(items_at(table, Key::Writes)),
+    }
+}
