@@ -1,3 +1,4 @@
 pub mod Lists
 pub mod Tables
 pub mod Sound
+pub mod Entries

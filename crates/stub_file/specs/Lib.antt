@@ -3,3 +3,5 @@ pub mod Document
 pub mod Rules
 pub mod Faults
 pub mod Stated
+pub mod Stubs
+pub mod Entries

@@ -6,8 +6,11 @@ mod document;
 mod fault;
 mod faults;
 mod keys;
+mod read;
 mod rules;
 mod stub;
+mod stubs;
 
 pub use fault::StubFault;
 pub use stub::{Amount, Reply, Stub, StubWrite};
+pub use stubs::Stubs;
