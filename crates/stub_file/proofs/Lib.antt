@@ -2,3 +2,4 @@ pub mod Lists
 pub mod Tables
 pub mod Sound
 pub mod Entries
+pub mod Gathered

@@ -5,9 +5,10 @@ use Rattle.std.specs.Cmp.Lexicographic.{slice_cmp}
 use Rattle.std.specs.List.{list_all}
 use Rattle.std.specs.Ordering.{nat_cmp}
 use Rattle.std.specs.declared.alloc.Global.{Global}
-use Rattle.toml.specs.Data.{Data}
-use Rattle.stub_file.specs.Faults.{stub_fault}
+use Rattle.toml.specs.Data.{Data, Members}
+use Rattle.stub_file.specs.Faults.{stub_fault, stubs_fault}
 use Rattle.stub_file.specs.Stated.{IsStub, has_own_arguments}
+use Rattle.stub_file.specs.Stubs.{AreStubs}
 use Rattle.stub_file.specs.declared.fault.StubFault.{StubFault}
 use Rattle.stub_file.specs.declared.fault.StubFault.TheVariants.{Memory}
 use Rattle.stub_file.specs.declared.stub.Stub.{Stub}
@@ -30,6 +31,12 @@ pub record Puts (name : List ℕ) (d : Data) (old new : List Entry) : Type 0 whe
   pub stated : IsStub d stub
   pub own : IsTrue (has_own_arguments stub)
   pub after : new ≡ insert_entry (λ x y. slice_cmp nat_cmp x.items y.items) old key stub
+
+-- the stubs of a table without a fault
+pub record AreRead (t : Members) (es : List Entry) : Type 0 where
+  pub faultless : stubs_fault t ≡ None
+  pub stated : AreStubs t (named_of es)
+  pub own : are_own es ≡ true
 
 -- want of memory, or this fault
 abbrev pub IsFault : Option StubFault → StubFault → Type 0

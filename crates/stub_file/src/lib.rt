@@ -12,5 +12,6 @@ mod stub;
 mod stubs;
 
 pub use fault::StubFault;
+pub use read::read_stubs;
 pub use stub::{Amount, Reply, Stub, StubWrite};
 pub use stubs::Stubs;

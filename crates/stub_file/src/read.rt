@@ -1,11 +1,11 @@
-ghost use Rattle.std.specs.Prelude.{◌≡◌, ◌&&◌, ◌<◌, ◌^◌, IfErr, IfOk, IsTrue, None, OnOk, nat_le, length, option_map, true, unwrap_or};
+ghost use Rattle.std.specs.Prelude.{◌≡◌, ◌&&◌, ◌<◌, ◌^◌, IfErr, IfOk, IsTrue, None, OnOk, nat_le, length, option_and_then, option_map, true, unwrap_or};
 ghost use Rattle.std.specs.BTreeMap.{insert_entry};
 ghost use Rattle.std.specs.Cmp.Lexicographic.{slice_cmp};
 ghost use Rattle.std.specs.List.{list_all};
 ghost use Rattle.std.specs.Ordering.{nat_cmp};
 ghost use Rattle.memory_map.specs.Name.{is_name, is_name_byte};
 ghost use Rattle.stub_file.specs.Document.{number_at, value_at};
-ghost use Rattle.stub_file.specs.Entries.{IsFault, Puts, are_own, named_of};
+ghost use Rattle.stub_file.specs.Entries.{AreRead, IsFault, Puts, are_own, named_of};
 ghost use Rattle.stub_file.specs.Faults.{document_fault, stub_fault, stubs_fault, stubs_in};
 ghost use Rattle.stub_file.specs.Stated.{IsStub, has_own_arguments};
 ghost use Rattle.stub_file.specs.Stubs.{AreStubs, IsStated, Refuses, States, align_is_kept};
@@ -89,4 +89,85 @@ fn put(
         Err(_) => return Err(StubFault::Memory),
     };
     insert(stubs, key, stub)
+}
+
+/// The stubs of a table.
+fn read_all(alloc: Global, table: &Table) -> Result<BTreeMap<Vec<u8>, Stub>, StubFault>
+    ensures read { IfOk result (λ stubs. AreRead (table_view table.now) stubs.entries) }
+    ensures fault { IfErr result (IsFault (stubs_fault (table_view table.now))) }
+{
+    let mut stubs = BTreeMap::new(alloc);
+    for (name, value) in table.iter() {
+        match put(alloc, &mut stubs, name.as_str(), value) {
+            Ok(()) => {}
+            Err(fault) => return Err(fault),
+        }
+    }
+    Ok(stubs)
+}
+
+fn align_at(table: &Table) -> Option<u32>
+    requires { unwrap_or (number_at Key.StackAlign (table_view table.now)) 0 < 2 ^ 32 }
+    ensures { result ≡ number_at Key.StackAlign (table_view table.now) }
+{
+    match number_at(table, Key::StackAlign) {
+        Some(number) => Some(number as u32),
+        None => None,
+    }
+}
+
+/// The table of stubs at the top level.
+fn stubs_at(table: &Table) -> Option<&Table>
+    ensures { option_map (λ stubs. table_view stubs.now) result ≡ option_and_then as_table (value_at Key.Stub (table_view table.now)) }
+{
+    match value_at(table, Key::Stub) {
+        Some(value) => value.as_table(),
+        None => None,
+    }
+}
+
+fn read_named(alloc: Global, table: &Table) -> Result<BTreeMap<Vec<u8>, Stub>, StubFault>
+    ensures read { IfOk result (λ stubs. AreRead (stubs_in (table_view table.now)) stubs.entries) }
+    ensures fault { IfErr result (IsFault (stubs_fault (stubs_in (table_view table.now)))) }
+{
+    match stubs_at(table) {
+        Some(stubs) => read_all(alloc, stubs),
+        None => Ok(BTreeMap::new(alloc)),
+    }
+}
+
+fn read_document(alloc: Global, table: &Table) -> Result<Stubs, StubFault>
+    ensures faultless { OnOk result (document_fault (table_view table.now) ≡ None) }
+    ensures stated { IfOk result (IsStated (table_view table.now)) }
+    ensures fault { IfErr result (IsFault (document_fault (table_view table.now))) }
+{
+    if let Some(fault) = top_fault(table) {
+        return Err(fault);
+    }
+    let align = align_at(table);
+    match read_named(alloc, table) {
+        Ok(stubs) => Ok(Stubs::new(align, stubs)),
+        Err(fault) => Err(fault),
+    }
+}
+
+/// Reads a stub file, a TOML 1.1 document: `stack_align`, a power of two from 4 to 4,096, and the table `stub`, whose
+/// keys are names of imports.
+///
+/// A stub has `args`, the bytes of its arguments (a multiple of 4 up to 64), `cleans`, those that it takes off the
+/// stack (the same, 0 where it is not there), `reply` (`any`, `number`, `block`, `never` or `enter`) and up to four
+/// tables in `writes`. With `number` comes `number`, with `block` one of `size` (1 to 67,108,864) and `size_arg` and,
+/// if wanted, `zeroed` and `may_fail`, with `enter` comes `enter_arg`. A write has `arg` and one of `length` (0 to
+/// 67,108,864) and `length_arg`. Keys that end in `arg` are indices of arguments, below `args` / 4.
+///
+/// The first fault is told, at the top level first and then at the first stub in byte order of the names that has one.
+pub fn read_stubs(alloc: Global, bytes: &[u8]) -> Result<Stubs, StubFault>
+    ensures stated { IfOk result (States bytes.now) }
+    ensures refused { IfErr result (Refuses bytes.now) }
+{
+    match toml::table_from_slice(alloc, bytes) {
+        Ok(table) => read_document(alloc, &table),
+        Err(error) if error.is_memory() => Err(StubFault::Memory),
+        Err(_) => Err(StubFault::NotToml),
+    }
 }

@@ -1,15 +1,10 @@
-use Rattle.std.proofs.Common.{◌≡◌, ◌∙◌, OnOk, Ok, Err, Result}
-use Rattle.stub_file.specs.Entries.{Puts}
-use Rattle.stub_file.specs.declared.fault.StubFault.{StubFault}
+use Rattle.std.proofs.Common.{◌∙◌}
+use Rattle.std.proofs.lemmas.Result.{on_ok_weaker}
 use Rattle.stub_file.proofs.read.put.Goals as goal
-
-weaker : {X E : Type 0} (P Q : Type 0) (r : Result X E) → OnOk r P → (P → Q) → OnOk r Q
-weaker P Q (Ok x) h f = f h
-weaker P Q (Err e) h f = tt
 
 pub returns-clause-put : goal.returns-clause-put
 returns-clause-put c =
-    weaker _ _ c.insert.result c.insert.ensures.ok
+    on_ok_weaker c.insert.result
         (λ after. record {
           key = c.in-Ok-from_slice.key;
           stub = c.in-Ok.stub;
@@ -19,3 +14,4 @@ returns-clause-put c =
           own = c.in-Ok.ensures.own;
           after = after
         })
+        c.insert.ensures.ok
