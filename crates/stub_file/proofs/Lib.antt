@@ -3,3 +3,4 @@ pub mod Tables
 pub mod Sound
 pub mod Entries
 pub mod Gathered
+pub mod Top

@@ -1,8 +1,8 @@
 -- What each line of a table of keys says, where no line tells a fault.
 use Rattle.std.proofs.Common.{◌≡◌, ◌∙◌, ap, sym, IsSomeAnd, IsTrue, bytes_eq, unwrap_or, arith, ℕ, ◌≤◌, zero, suc, Bool, true, false, not, ◌||◌, ◌⊎◌, cond, List, [], ◌∷◌, Option, Some, None, IsSome, is_some, slice_get, option_and_then, refl, inl, inr, find}
-use Rattle.std.specs.List.{list_any}
+use Rattle.std.specs.List.{list_all, list_any}
 use Rattle.std.specs.Option.{option_map_or}
-use Rattle.std.proofs.lemmas.Bool.{or_parts, false≢true, not-false}
+use Rattle.std.proofs.lemmas.Bool.{and_parts, or_parts, false≢true, not-false}
 use Rattle.std.proofs.lemmas.Slice.Eq.{bytes_eq-Decides}
 use Rattle.toml.specs.Data.{Data}
 use Rattle.stub_file.specs.Document.{number_of}
@@ -88,3 +88,10 @@ pub at_most : (test : ℕ → Bool) (limit : ℕ) (o : Option Data) → ((n : �
     → unwrap_or (option_and_then number_of o) 0 ≤ limit
 at_most test limit None bound h = omega arith
 at_most test limit (Some d) bound h = at_most_of test limit bound (number_of d) h
+
+pub find_all : {X : Type 0} (fact p : X → Bool) (xs : List X) (x : X) → list_all fact xs ≡ true → find p xs ≡ Some x → fact x ≡ true
+find_all fact p [] x all found = cc
+find_all {X} fact p (y ∷ xs) x all found =
+    let P : Bool → Type 0 = λ b. cond b (Some y) (find p xs) ≡ Some x → fact x ≡ true in
+    let parts = and_parts (fact y) (list_all fact xs) all in
+    (elim (p y) as P [ true ↦ λ f. (let same : y ≡ x = cc in rw (sym same) parts.0) | false ↦ λ f. find_all fact p xs x parts.1 f ]) found

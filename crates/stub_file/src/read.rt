@@ -6,7 +6,7 @@ ghost use Rattle.std.specs.Ordering.{nat_cmp};
 ghost use Rattle.memory_map.specs.Name.{is_name, is_name_byte};
 ghost use Rattle.stub_file.specs.Document.{number_at, value_at};
 ghost use Rattle.stub_file.specs.Entries.{AreRead, IsFault, Puts, are_own, named_of};
-ghost use Rattle.stub_file.specs.Faults.{document_fault, stub_fault, stubs_fault, stubs_in};
+ghost use Rattle.stub_file.specs.Faults.{document_fault, stub_fault, stubs_fault, stubs_in, top_fault};
 ghost use Rattle.stub_file.specs.Stated.{IsStub, has_own_arguments};
 ghost use Rattle.stub_file.specs.Stubs.{AreStubs, IsStated, Refuses, States, align_is_kept};
 ghost use Rattle.toml.specs.Data.{as_table};
@@ -136,18 +136,28 @@ fn read_named(alloc: Global, table: &Table) -> Result<BTreeMap<Vec<u8>, Stub>, S
     }
 }
 
+fn read_parts(alloc: Global, table: &Table) -> Result<Stubs, StubFault>
+    requires { top_fault (table_view table.now) ≡ None }
+    ensures faultless { OnOk result (stubs_fault (stubs_in (table_view table.now)) ≡ None) }
+    ensures stated { IfOk result (IsStated (table_view table.now)) }
+    ensures fault { IfErr result (IsFault (stubs_fault (stubs_in (table_view table.now)))) }
+{
+    let align = align_at(table);
+    match read_named(alloc, table) {
+        Ok(stubs) => Ok(Stubs::new(align, stubs)),
+        Err(fault) => Err(fault),
+    }
+}
+
+#[tactic(auto, unfolding(crate::specs::Faults::document_fault))]
 fn read_document(alloc: Global, table: &Table) -> Result<Stubs, StubFault>
     ensures faultless { OnOk result (document_fault (table_view table.now) ≡ None) }
     ensures stated { IfOk result (IsStated (table_view table.now)) }
     ensures fault { IfErr result (IsFault (document_fault (table_view table.now))) }
 {
-    if let Some(fault) = top_fault(table) {
-        return Err(fault);
-    }
-    let align = align_at(table);
-    match read_named(alloc, table) {
-        Ok(stubs) => Ok(Stubs::new(align, stubs)),
-        Err(fault) => Err(fault),
+    match top_fault(table) {
+        Some(fault) => Err(fault),
+        None => read_parts(alloc, table),
     }
 }
 
