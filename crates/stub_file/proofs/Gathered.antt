@@ -10,14 +10,15 @@ use Rattle.std.specs.String.{string_cmp}
 use Rattle.std.proofs.lemmas.Bool.{and_from, and_parts}
 use Rattle.toml.specs.View.{members_view, view}
 use Rattle.toml.specs.declared.value.Value.{Value}
-use Rattle.stub_file.specs.Entries.{AreRead, Entry, IsFault, Puts, are_own, named_of}
-use Rattle.stub_file.specs.Faults.{stub_fault, stubs_fault}
+use Rattle.stub_file.specs.Entries.{AreRead, Entry, OrMemory, Puts, are_own, named_of}
+use Rattle.stub_file.specs.Faults.{IsFirstFault, stub_fault}
 use Rattle.stub_file.specs.Stated.{has_own_arguments}
 use Rattle.stub_file.specs.Stubs.{AreStubs}
 use Rattle.stub_file.specs.declared.fault.StubFault.{StubFault}
-use Rattle.stub_file.specs.declared.fault.StubFault.TheVariants.{Memory}
 use Rattle.stub_file.specs.declared.stub.Stub.{Stub}
 use Rattle.stub_file.proofs.Entries.{insert_last, names_of}
+use Rattle.stub_file.proofs.Lists.{keys_in-view}
+use Rattle.stub_file.proofs.Order.{first_has, none_has, stubs_fault}
 
 abbrev pub Row : Type 0
 Row = String Global × Value
@@ -49,13 +50,16 @@ own_last (e ∷ es) x h last =
     and_from (has_own_arguments e.1) (are_own (es ++ x ∷ [])) parts.0 (own_last es x parts.1 last)
 
 pub record Gathered (all : List Row) (done : List Entry) (rest : List Row) : Type 0 where
+  pub sorted : IsStrictlySortedBy (slice_cmp nat_cmp) (texts_of all)
   pub fault : stubs_fault (members_view all) ≡ stubs_fault (members_view rest)
   pub stated : (more : List (List ℕ × Stub)) → AreStubs (members_view rest) more → AreStubs (members_view all) (named_of done ++ more)
   pub order : IsStrictlySortedBy (slice_cmp nat_cmp) (names_of done ++ texts_of rest)
   pub own : are_own done ≡ true
 
 pub start : (all : List Row) → IsStrictlySortedBy string_cmp (keys_of all) → Gathered all [] all
-start all h = record { fault = refl; stated = λ more s. s; order = sorted_texts (keys_of all) h; own = refl }
+start all h =
+    let sorted = sorted_texts (keys_of all) h in
+    record { sorted = sorted; fault = refl; stated = λ more s. s; order = sorted; own = refl }
 
 pub step : (all : List Row) (done new : List Entry) (row : Row) (rest : List Row) → Gathered all done (row ∷ rest) → Puts (string_bytes row.0) (view row.1) done new → Gathered all new rest
 step all done new row rest g p =
@@ -64,6 +68,7 @@ step all done new row rest g p =
     let last : new ≡ done ++ (p.key, p.stub) ∷ [] = p.after ∙ insert_last done p.key p.stub (texts_of rest) order in
     let Q : List Entry → Type 0 = λ es. Gathered all es rest in
     subst Q (sym last) (record {
+      sorted = g.sorted;
       fault = g.fault ∙ ap (λ o. option_or o (stubs_fault (members_view rest))) p.faultless;
       stated = λ more s. (let R : List (List ℕ × Stub) → Type 0 = λ xs. AreStubs (members_view all) xs in
         subst R (sym (named_last done (p.key, p.stub) more)) (g.stated ((p.key.items, p.stub) ∷ more) (p.key_is, p.stated, s)));
@@ -75,14 +80,16 @@ step all done new row rest g p =
 pub finish : (all : List Row) (done : List Entry) → Gathered all done [] → AreRead (members_view all) done
 finish all done g =
     let R : List (List ℕ × Stub) → Type 0 = λ xs. AreStubs (members_view all) xs in
-    record { faultless = g.fault; stated = subst R (append-nil (named_of done)) (g.stated [] tt); own = g.own }
+    record { faultless = none_has (members_view all) g.fault; stated = subst R (append-nil (named_of done)) (g.stated [] tt); own = g.own }
 
-faulty : (o p : Option StubFault) (fault : StubFault) → IsFault o fault → IsFault (option_or o p) fault
-faulty o p fault (inl memory) = inl memory
-faulty o p fault (inr is) = inr (ap (λ q. option_or q p) is)
+first_fault : (all : List Row) (done : List Entry) (row : Row) (rest : List Row) (fault : StubFault) → Gathered all done (row ∷ rest) → stub_fault (string_bytes row.0) (view row.1) ≡ Some fault
+    → IsFirstFault (members_view all) fault
+first_fault all done row rest fault g h =
+    let S : List (List ℕ) → Type 0 = λ names. IsStrictlySortedBy (slice_cmp nat_cmp) names in
+    first_has (members_view all) (subst S (sym (keys_in-view all)) g.sorted) fault
+    (g.fault ∙ ap (λ o. option_or o (stubs_fault (members_view rest))) h)
 
-pub stop : (all : List Row) (done : List Entry) (row : Row) (rest : List Row) (fault : StubFault) → Gathered all done (row ∷ rest) → IsFault (stub_fault (string_bytes row.0) (view row.1)) fault
-    → IsFault (stubs_fault (members_view all)) fault
-stop all done row rest fault g h =
-    let P : Option StubFault → Type 0 = λ o. IsFault o fault in
-    subst P (sym g.fault) (faulty (stub_fault (string_bytes row.0) (view row.1)) (stubs_fault (members_view rest)) fault h)
+pub stop : (all : List Row) (done : List Entry) (row : Row) (rest : List Row) (fault : StubFault) → Gathered all done (row ∷ rest)
+    → OrMemory (λ fault. stub_fault (string_bytes row.0) (view row.1) ≡ Some fault) fault → OrMemory (IsFirstFault (members_view all)) fault
+stop all done row rest fault g (inl memory) = inl memory
+stop all done row rest fault g (inr h) = inr (first_fault all done row rest fault g h)

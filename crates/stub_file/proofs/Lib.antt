@@ -4,3 +4,4 @@ pub mod Sound
 pub mod Entries
 pub mod Gathered
 pub mod Top
+pub mod Order

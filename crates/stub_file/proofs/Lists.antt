@@ -15,6 +15,10 @@ pub list_any-map : {X Y : Type 0} (p : Y → Bool) (f : X → Y) (xs : List X) �
 list_any-map p f [] = refl
 list_any-map p f (x ∷ xs) = ap (λ b. p (f x) || b) (list_any-map p f xs)
 
+pub keys_in-view : (es : List (String Global × Value)) → keys_in (members_view es) ≡ map string_bytes (keys_of es)
+keys_in-view [] = refl
+keys_in-view (e ∷ es) = ap (λ ks. string_bytes e.0 ∷ ks) (keys_in-view es)
+
 -- a test of the keys of a table
 pub any_key : (p : List ℕ → Bool) (es : List (String Global × Value)) → list_any p (keys_in (members_view es)) ≡ list_any (λ k. p (string_bytes k)) (keys_of es)
 any_key p [] = refl

@@ -1,13 +1,13 @@
 -- The top level, and the refusal that a fault is.
 use Rattle.std.proofs.Common.{◌≡◌, ◌≤◌, ℕ, Bool, true, false, not, ◌||◌, ◌&&◌, List, [], ◌∷◌, Option, Some, None, nat_eq, nat_le, unwrap_or, find, option_and_then, refl, sym, inl, inr, cond, arith, ◌∙◌, ◌⊎◌}
 use Rattle.std.specs.List.{list_all, list_any}
-use Rattle.std.specs.Option.{option_map_or, option_or}
+use Rattle.std.specs.Option.{option_map_or}
 use Rattle.std.proofs.lemmas.Bool.{and_parts, eqb-true, false≢true, leb-true, not-false, or_cases}
 use Rattle.memory_map.specs.Name.{is_name}
-use Rattle.toml.specs.Data.{Data, Members, no_members, member, as_table}
+use Rattle.toml.specs.Data.{Data, Members, as_table}
 use Rattle.stub_file.specs.Document.{number_at, number_of, value_at}
-use Rattle.stub_file.specs.Entries.{IsFault}
-use Rattle.stub_file.specs.Faults.{document_fault, is_out, is_out_of_range, stub_fault, stub_has, stubs_fault, stubs_in, table_fault, table_has, top_fault}
+use Rattle.stub_file.specs.Entries.{OrMemory}
+use Rattle.stub_file.specs.Faults.{HasFault, is_out, is_out_of_range, stub_fault, stub_has, table_fault, table_has, top_fault}
 use Rattle.stub_file.specs.Rules.{is_alignment}
 use Rattle.stub_file.specs.Stubs.{IsDocument, Refuses, align_is_kept}
 use Rattle.stub_file.specs.declared.fault.StubFault.{StubFault}
@@ -59,10 +59,6 @@ pub record Tells (o : Option StubFault) : Type 0 where
 first_tells : (has : StubFault → Bool) → Tells (find has FAULTS)
 first_tells has = record { told = λ fault found. find_all is_told has FAULTS fault refl found }
 
-or_tells : (o p : Option StubFault) → Tells o → Tells p → Tells (option_or o p)
-or_tells None p a b = b
-or_tells (Some f) p a b = a
-
 table_tells : (o : Option Members) → Tells (option_map_or table_fault o (Some WrongKind))
 unfolding table_fault
 table_tells None = record { told = λ fault is. (let same : WrongKind ≡ fault = cc in rw (sym same)) }
@@ -76,27 +72,23 @@ stub_tells : (name : List ℕ) (d : Data) → Tells (stub_fault name d)
 unfolding stub_fault
 stub_tells name d = named_tells (is_name name) (option_map_or table_fault (as_table d) (Some WrongKind)) (table_tells (as_table d))
 
-stubs_tell : (t : Members) → Tells (stubs_fault t)
-stubs_tell no_members = record { told = λ fault is. cc }
-stubs_tell (member name d t) = or_tells (stub_fault name d) (stubs_fault t) (stub_tells name d) (stubs_tell t)
-
 top_tells : (t : Members) → Tells (top_fault t)
 unfolding top_fault
 top_tells t = first_tells (λ fault. table_has TOP_KEYS [] 0 fault t)
 
-document_tells : (t : Members) → Tells (document_fault t)
-unfolding document_fault
-document_tells t = or_tells (top_fault t) (stubs_fault (stubs_in t)) (top_tells t) (stubs_tell (stubs_in t))
+document_tells : (t : Members) (fault : StubFault) → HasFault t fault → is_told fault ≡ true
+document_tells t fault (inl h) = (top_tells t).told fault h
+document_tells t fault (inr h) = (stub_tells h.1.name h.1.value).told fault h.1.has
 
-pub refuses : (bytes : List ℕ) (t : Members) → IsDocument bytes t → (fault : StubFault) → IsFault (document_fault t) fault → Refuses bytes fault
+pub refuses : (bytes : List ℕ) (t : Members) → IsDocument bytes t → (fault : StubFault) → OrMemory (HasFault t) fault → Refuses bytes fault
 refuses bytes t read NotToml (inl e) = cc
-refuses bytes t read NotToml (inr e) = absurd (false≢true ((document_tells t).told NotToml e))
+refuses bytes t read NotToml (inr h) = absurd (false≢true (document_tells t NotToml h))
 refuses bytes t read UnknownKey (inl e) = cc
-refuses bytes t read UnknownKey (inr e) = (t, read, e)
+refuses bytes t read UnknownKey (inr h) = (t, read, h)
 refuses bytes t read WrongKind (inl e) = cc
-refuses bytes t read WrongKind (inr e) = (t, read, e)
+refuses bytes t read WrongKind (inr h) = (t, read, h)
 refuses bytes t read OutOfRange (inl e) = cc
-refuses bytes t read OutOfRange (inr e) = (t, read, e)
+refuses bytes t read OutOfRange (inr h) = (t, read, h)
 refuses bytes t read Both (inl e) = cc
-refuses bytes t read Both (inr e) = (t, read, e)
+refuses bytes t read Both (inr h) = (t, read, h)
 refuses bytes t read Memory h = tt

@@ -1,12 +1,12 @@
 -- The stubs in the map that the program holds.
-use Rattle.std.specs.Prelude.{◌≡◌, ◌⊎◌, ℕ, Bool, true, List, Option, Some, None, map, Vec, IsTrue}
+use Rattle.std.specs.Prelude.{◌≡◌, ◌⊎◌, ℕ, Bool, true, List, None, map, Vec, IsTrue}
 use Rattle.std.specs.BTreeMap.{insert_entry}
 use Rattle.std.specs.Cmp.Lexicographic.{slice_cmp}
 use Rattle.std.specs.List.{list_all}
 use Rattle.std.specs.Ordering.{nat_cmp}
 use Rattle.std.specs.declared.alloc.Global.{Global}
 use Rattle.toml.specs.Data.{Data, Members}
-use Rattle.stub_file.specs.Faults.{stub_fault, stubs_fault}
+use Rattle.stub_file.specs.Faults.{AreFaultless, stub_fault}
 use Rattle.stub_file.specs.Stated.{IsStub, has_own_arguments}
 use Rattle.stub_file.specs.Stubs.{AreStubs}
 use Rattle.stub_file.specs.declared.fault.StubFault.{StubFault}
@@ -34,10 +34,10 @@ pub record Puts (name : List ℕ) (d : Data) (old new : List Entry) : Type 0 whe
 
 -- the stubs of a table without a fault
 pub record AreRead (t : Members) (es : List Entry) : Type 0 where
-  pub faultless : stubs_fault t ≡ None
+  pub faultless : AreFaultless t
   pub stated : AreStubs t (named_of es)
   pub own : are_own es ≡ true
 
--- want of memory, or this fault
-abbrev pub IsFault : Option StubFault → StubFault → Type 0
-IsFault o fault = (fault ≡ Memory) ⊎ (o ≡ Some fault)
+-- want of memory, or such a fault
+abbrev pub OrMemory : (StubFault → Type 0) → StubFault → Type 0
+OrMemory P fault = (fault ≡ Memory) ⊎ P fault

@@ -1,9 +1,12 @@
 -- The faults of a document.
-use Rattle.std.specs.Prelude.{ℕ, ◌==◌, ◌&&◌, ◌||◌, if◌then◌else◌, Bool, true, false, not, List, [], ◌∷◌, Option, Some, None, codes, nat_lt, bytes_eq, count_by, find, unwrap_or, option_and_then}
+use Rattle.std.specs.Prelude.{◌≡◌, ◌⊎◌, ℕ, ◌==◌, ◌&&◌, ◌||◌, if◌then◌else◌, Bool, true, false, not, List, [], ◌∷◌, Option, Some, None, codes, nat_lt, bytes_eq, count_by, find, unwrap_or, option_and_then}
+use Rattle.std.specs.Cmp.Lexicographic.{slice_cmp}
 use Rattle.std.specs.List.{list_any}
-use Rattle.std.specs.Option.{option_map_or, option_or}
+use Rattle.std.specs.Ordering.{nat_cmp}
+use Rattle.std.specs.declared.cmp.Ordering.TheVariants.{Less}
+use Rattle.std.specs.Option.{option_map_or}
 use Rattle.memory_map.specs.Name.{is_name}
-use Rattle.toml.specs.Data.{Data, as_table, Members, no_members, member}
+use Rattle.toml.specs.Data.{Data, as_table, Members, no_members, get_member}
 use Rattle.stub_file.specs.Document.{keys_in, items_at, number_at, text_at, value_at}
 use Rattle.stub_file.specs.Keys.{key_name}
 use Rattle.stub_file.specs.Rules.{belongs, has_type, is_choice, is_in_range, is_present, is_required}
@@ -96,11 +99,6 @@ table_fault t = first_fault (λ fault. stub_has fault t)
 unfoldable pub stub_fault : List ℕ → Data → Option StubFault
 stub_fault name d = if is_name name then option_map_or table_fault (as_table d) (Some WrongKind) else Some UnknownKey
 
--- the first fault of the first stub that has one
-abbrev pub stubs_fault : Members → Option StubFault
-stubs_fault no_members = None
-stubs_fault (member name d t) = option_or (stub_fault name d) (stubs_fault t)
-
 -- the first fault at the top level
 unfoldable pub top_fault : Members → Option StubFault
 top_fault t = first_fault (λ fault. table_has TOP_KEYS [] 0 fault t)
@@ -109,6 +107,21 @@ top_fault t = first_fault (λ fault. table_has TOP_KEYS [] 0 fault t)
 abbrev pub stubs_in : Members → Members
 stubs_in t = unwrap_or (option_and_then as_table (value_at key.Stub t)) no_members
 
--- the first fault of a document
-unfoldable pub document_fault : Members → Option StubFault
-document_fault t = option_or (top_fault t) (stubs_fault (stubs_in t))
+-- no stub has a fault
+abbrev pub AreFaultless : Members → Type 0
+AreFaultless t = (name : List ℕ) (d : Data) → get_member name t ≡ Some d → stub_fault name d ≡ None
+
+-- the fault of the first stub, in the byte order of the names, that has one
+pub record IsFirstFault (t : Members) (fault : StubFault) : Type 0 where
+  pub name : List ℕ
+  pub value : Data
+  pub there : get_member name t ≡ Some value
+  pub has : stub_fault name value ≡ Some fault
+  pub before : (other : List ℕ) (d : Data) → get_member other t ≡ Some d → slice_cmp nat_cmp other name ≡ Less → stub_fault other d ≡ None
+
+-- the first fault of a document: one at the top level, or else one of the stubs
+abbrev pub HasFault : Members → StubFault → Type 0
+HasFault t fault = (top_fault t ≡ Some fault) ⊎ ((top_fault t ≡ None) × IsFirstFault (stubs_in t) fault)
+
+abbrev pub IsFaultless : Members → Type 0
+IsFaultless t = (top_fault t ≡ None) × AreFaultless (stubs_in t)

@@ -6,7 +6,7 @@ use Rattle.std.specs.Option.{option_map_or}
 use Rattle.toml.specs.Data.{Data, Members, no_members, member, same_key}
 use Rattle.toml.specs.Parse.{parse_document}
 use Rattle.stub_file.specs.Document.{number_at}
-use Rattle.stub_file.specs.Faults.{document_fault, stubs_in}
+use Rattle.stub_file.specs.Faults.{HasFault, IsFaultless, stubs_in}
 use Rattle.stub_file.specs.Rules.{is_alignment}
 use Rattle.stub_file.specs.Stated.{IsStub, has_own_arguments}
 use Rattle.stub_file.specs.declared.fault.StubFault.{StubFault}
@@ -50,7 +50,7 @@ IsDocument bytes t = IsUtf8 bytes × (parse_document bytes ≡ Some t)
 abbrev pub Refuses : List ℕ → StubFault → Type 0
 Refuses bytes NotToml = (t : Members) → IsDocument bytes t → ⊥
 Refuses bytes Memory = ⊤
-Refuses bytes fault = (t : Members) × IsDocument bytes t × (document_fault t ≡ Some fault)
+Refuses bytes fault = (t : Members) × IsDocument bytes t × HasFault t fault
 
 abbrev pub States : List ℕ → StatedStubs → Type 0
-States bytes s = (t : Members) × IsDocument bytes t × (document_fault t ≡ None) × IsStated t s
+States bytes s = (t : Members) × IsDocument bytes t × IsFaultless t × IsStated t s

@@ -5,8 +5,8 @@ ghost use Rattle.std.specs.List.{list_all};
 ghost use Rattle.std.specs.Ordering.{nat_cmp};
 ghost use Rattle.memory_map.specs.Name.{is_name, is_name_byte};
 ghost use Rattle.stub_file.specs.Document.{number_at, value_at};
-ghost use Rattle.stub_file.specs.Entries.{AreRead, IsFault, Puts, are_own, named_of};
-ghost use Rattle.stub_file.specs.Faults.{document_fault, stub_fault, stubs_fault, stubs_in, top_fault};
+ghost use Rattle.stub_file.specs.Entries.{AreRead, OrMemory, Puts};
+ghost use Rattle.stub_file.specs.Faults.{AreFaultless, HasFault, IsFaultless, IsFirstFault, stub_fault, stubs_in, top_fault};
 ghost use Rattle.stub_file.specs.Stated.{IsStub, has_own_arguments};
 ghost use Rattle.stub_file.specs.Stubs.{AreStubs, IsStated, Refuses, States, align_is_kept};
 ghost use Rattle.toml.specs.Data.{as_table};
@@ -78,7 +78,7 @@ fn put(
     value: &Value,
 ) -> Result<(), StubFault>
     ensures put { OnOk result (Puts name.now (view value.now) stubs.old.entries stubs.new.entries) }
-    ensures fault { IfErr result (IsFault (stub_fault name.now (view value.now))) }
+    ensures fault { IfErr result (OrMemory (λ fault. stub_fault name.now (view value.now) ≡ Some fault)) }
 {
     let stub = match read_stub(name, value) {
         Ok(stub) => stub,
@@ -94,7 +94,7 @@ fn put(
 /// The stubs of a table.
 fn read_all(alloc: Global, table: &Table) -> Result<BTreeMap<Vec<u8>, Stub>, StubFault>
     ensures read { IfOk result (λ stubs. AreRead (table_view table.now) stubs.entries) }
-    ensures fault { IfErr result (IsFault (stubs_fault (table_view table.now))) }
+    ensures fault { IfErr result (OrMemory (IsFirstFault (table_view table.now))) }
 {
     let mut stubs = BTreeMap::new(alloc);
     for (name, value) in table.iter() {
@@ -128,7 +128,7 @@ fn stubs_at(table: &Table) -> Option<&Table>
 
 fn read_named(alloc: Global, table: &Table) -> Result<BTreeMap<Vec<u8>, Stub>, StubFault>
     ensures read { IfOk result (λ stubs. AreRead (stubs_in (table_view table.now)) stubs.entries) }
-    ensures fault { IfErr result (IsFault (stubs_fault (stubs_in (table_view table.now)))) }
+    ensures fault { IfErr result (OrMemory (IsFirstFault (stubs_in (table_view table.now)))) }
 {
     match stubs_at(table) {
         Some(stubs) => read_all(alloc, stubs),
@@ -138,9 +138,9 @@ fn read_named(alloc: Global, table: &Table) -> Result<BTreeMap<Vec<u8>, Stub>, S
 
 fn read_parts(alloc: Global, table: &Table) -> Result<Stubs, StubFault>
     requires { top_fault (table_view table.now) ≡ None }
-    ensures faultless { OnOk result (stubs_fault (stubs_in (table_view table.now)) ≡ None) }
+    ensures faultless { OnOk result (AreFaultless (stubs_in (table_view table.now))) }
     ensures stated { IfOk result (IsStated (table_view table.now)) }
-    ensures fault { IfErr result (IsFault (stubs_fault (stubs_in (table_view table.now)))) }
+    ensures fault { IfErr result (OrMemory (IsFirstFault (stubs_in (table_view table.now)))) }
 {
     let align = align_at(table);
     match read_named(alloc, table) {
@@ -149,11 +149,10 @@ fn read_parts(alloc: Global, table: &Table) -> Result<Stubs, StubFault>
     }
 }
 
-#[tactic(auto, unfolding(crate::specs::Faults::document_fault))]
 fn read_document(alloc: Global, table: &Table) -> Result<Stubs, StubFault>
-    ensures faultless { OnOk result (document_fault (table_view table.now) ≡ None) }
+    ensures faultless { OnOk result (IsFaultless (table_view table.now)) }
     ensures stated { IfOk result (IsStated (table_view table.now)) }
-    ensures fault { IfErr result (IsFault (document_fault (table_view table.now))) }
+    ensures fault { IfErr result (OrMemory (HasFault (table_view table.now))) }
 {
     match top_fault(table) {
         Some(fault) => Err(fault),

@@ -1,8 +1,9 @@
-use Rattle.std.proofs.Common.{◌≡◌, ◌∙◌, ℕ, List, [], ◌∷◌, string_bytes, subst, sym, rules}
+use Rattle.std.proofs.Common.{◌≡◌, ◌∙◌, ℕ, List, [], ◌∷◌, Some, subst, sym, rules}
 use Rattle.std.specs.Map.Iter.{deref_pair}
 use Rattle.std.proofs.lemmas.Map.Iter.{rest_all, rest_more}
-use Rattle.stub_file.specs.Entries.{Entry, Puts}
-use Rattle.stub_file.proofs.Gathered.{Gathered, Row, finish, start, step}
+use Rattle.stub_file.specs.Entries.{Entry, OrMemory, Puts}
+use Rattle.stub_file.specs.Faults.{stub_fault}
+use Rattle.stub_file.proofs.Gathered.{Gathered, Row, finish, start, step, stop}
 use Rattle.toml.specs.View.{view}
 use Rattle.stub_file.proofs.read.read_all.Goals as goal
 
@@ -31,3 +32,13 @@ returns-clause-read c =
         rest_all deref_pair c.loop-name.name-iterator c.next.new.self c.next.result c.in-None.is c.next.ensures.steps in
     let P : List Row → Type 0 = λ rest. Gathered all c.loop-name.stubs.entries rest in
     finish all c.loop-name.stubs.entries (subst P none c.loop-name.invariant)
+
+pub returns-in-Err-clause-fault : goal.returns-in-Err-clause-fault
+returns-in-Err-clause-fault c =
+    let all = c.args.table.now.entries in
+    let row : Row = (c.in-Some.name.now, c.in-Some.value.now) in
+    let first : c.loop-name.name-iterator ≡ row ∷ c.next.new.self =
+        rest_more deref_pair c.loop-name.name-iterator c.next.new.self c.next.result (c.in-Some.name, c.in-Some.value) c.in-Some.is c.next.ensures.steps in
+    let P : List Row → Type 0 = λ rest. Gathered all c.loop-name.stubs.entries rest in
+    let Q : List ℕ → Type 0 = λ name. OrMemory (λ fault. stub_fault name (view c.in-Some.value.now) ≡ Some fault) c.in-Err.fault in
+    stop all c.loop-name.stubs.entries row c.next.new.self c.in-Err.fault (subst P first c.loop-name.invariant) (subst Q c.as_str.ensures.value c.in-Err.ensures.fault)
