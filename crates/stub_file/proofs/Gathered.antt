@@ -71,10 +71,10 @@ step all done new row rest g p =
       sorted = g.sorted;
       fault = g.fault ∙ ap (λ o. option_or o (stubs_fault (members_view rest))) p.faultless;
       stated = λ more s. (let R : List (List ℕ × Stub) → Type 0 = λ xs. AreStubs (members_view all) xs in
-        subst R (sym (named_last done (p.key, p.stub) more)) (g.stated ((p.key.items, p.stub) ∷ more) (p.key_is, p.stated, s)));
+          subst R (sym (named_last done (p.key, p.stub) more)) (g.stated ((p.key.items, p.stub) ∷ more) (p.key_is, p.stated, s)));
       order = (let R : List (List ℕ) → Type 0 = λ xs. IsStrictlySortedBy (slice_cmp nat_cmp) xs in
-        subst R (sym (names_last done (p.key, p.stub) (texts_of rest))) order);
-      own = own_last done (p.key, p.stub) g.own p.own
+          subst R (sym (names_last done (p.key, p.stub) (texts_of rest))) order);
+      own = own_last done (p.key, p.stub) g.own p.own;
     })
 
 pub finish : (all : List Row) (done : List Entry) → Gathered all done [] → AreRead (members_view all) done

@@ -24,11 +24,11 @@ same_names a b h = (bytes_eq-Decides a b).0 (sym (is_eq-slice_cmp a b) ∙ ap is
 found_cases : (name key : List ℕ) (d e : Data) (t : Members) → get_member name (member key d t) ≡ Some e → ((name ≡ key) × (d ≡ e)) ⊎ (get_member name t ≡ Some e)
 found_cases name key d e t found =
     let P : Ordering → Type 0 = λ o. slice_cmp nat_cmp name key ≡ o → match_ordering o (get_member name t) (Some d) (get_member name t) ≡ Some e
-        → ((name ≡ key) × (d ≡ e)) ⊎ (get_member name t ≡ Some e) in
+    → ((name ≡ key) × (d ≡ e)) ⊎ (get_member name t ≡ Some e) in
     (elim (slice_cmp nat_cmp name key) as P [
-      Less ↦ λ q h. inr h
-    | Equal ↦ λ q h. inl (same_names name key q, cc)
-    | Greater ↦ λ q h. inr h
+      | Less ↦ λ q h. inr h
+      | Equal ↦ λ q h. inl (same_names name key q, cc)
+      | Greater ↦ λ q h. inr h
     ]) refl found
 
 found_itself : (key : List ℕ) (d : Data) (t : Members) → get_member key (member key d t) ≡ Some d
@@ -47,8 +47,8 @@ after : (key name : List ℕ) (e : Data) (t : Members) → AllByRecursion (λ y.
 after key name e no_members h found = cc
 after key name e (member other d t) h found =
     elim (found_cases name other d e t found) [
-      inl here ↦ rw (here.0) h.0
-    | inr there ↦ after key name e t h.1 there
+      | inl here ↦ rw (here.0) h.0
+      | inr there ↦ after key name e t h.1 there
     ]
 
 pub none_has : (t : Members) → stubs_fault t ≡ None → AreFaultless t
@@ -56,8 +56,8 @@ none_has no_members h name e found = cc
 none_has (member key d t) h name e found =
     let parts = none_parts (stub_fault key d) (stubs_fault t) h in
     elim (found_cases name key d e t found) [
-      inl here ↦ rw (here.0, ← here.1) parts.0
-    | inr there ↦ none_has t parts.1 name e there
+      | inl here ↦ rw (here.0, ← here.1) parts.0
+      | inr there ↦ none_has t parts.1 name e there
     ]
   where
     none_parts : (o p : Option StubFault) → option_or o p ≡ None → (o ≡ None) × (p ≡ None)
@@ -72,9 +72,9 @@ here_first key d t less fault h = record {
   there = found_itself key d t;
   has = h;
   before = λ other e found below. (elim (found_cases other key d e t found) [
-    inl here ↦ absurd (not_less key (rw (here.0) at below))
-  | inr there ↦ absurd (not_less key (nat_list_cmp_total.trans key other key (after key other e t less there) below))
-  ])
+    | inl here ↦ absurd (not_less key (rw (here.0) at below))
+    | inr there ↦ absurd (not_less key (nat_list_cmp_total.trans key other key (after key other e t less there) below))
+  ]);
 }
 
 later_first : (key : List ℕ) (d : Data) (t : Members) → AllByRecursion (λ y. slice_cmp nat_cmp key y ≡ Less) (keys_in t) → (fault : StubFault) → stub_fault key d ≡ None
@@ -85,9 +85,9 @@ later_first key d t less fault none f = record {
   there = passed f.name key d t (after key f.name f.value t less f.there) ∙ f.there;
   has = f.has;
   before = λ other e found below. (elim (found_cases other key d e t found) [
-    inl here ↦ rw (here.0, ← here.1) none
-  | inr there ↦ f.before other e there below
-  ])
+    | inl here ↦ rw (here.0, ← here.1) none
+    | inr there ↦ f.before other e there below
+  ]);
 }
 
 pub first_has : (t : Members) → IsStrictlySortedBy (slice_cmp nat_cmp) (keys_in t) → (fault : StubFault) → stubs_fault t ≡ Some fault → IsFirstFault t fault
@@ -96,6 +96,6 @@ first_has no_members sorted fault h = cc
 first_has (member key d t) sorted fault h =
     let P : Option StubFault → Type 0 = λ o. stub_fault key d ≡ o → option_or o (stubs_fault t) ≡ Some fault → IsFirstFault (member key d t) fault in
     (elim (stub_fault key d) as P [
-      None ↦ λ q e. later_first key d t sorted.0 fault q (first_has t sorted.1 fault e)
-    | Some f ↦ λ q e. here_first key d t sorted.0 fault (q ∙ e)
+      | None ↦ λ q e. later_first key d t sorted.0 fault q (first_has t sorted.1 fault e)
+      | Some f ↦ λ q e. here_first key d t sorted.0 fault (q ∙ e)
     ]) refl h

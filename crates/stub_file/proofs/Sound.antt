@@ -70,12 +70,12 @@ amount : (m : Numbers) (args : ℕ) (fixed index : Key) (t : Members) → m.high
     → HasAmount fixed index t
 amount m args fixed index t high few out_fixed out_index other =
     elim (cases_Bool (is_some (value_at fixed t))) [
-      inl there ↦
-        (let r = read number_of (is_among m) (value_at fixed t) there out_fixed in
-        inl (below (2 ^ 32) (number_at fixed t) r.value r.is (among_below m (2 ^ 32) r.value high r.passes)))
-    | inr missing ↦
-        (let r = read number_of (is_index args) (value_at index t) (other missing) out_index in
-        inr (absent number_of (value_at fixed t) missing, below 256 (number_at index t) r.value r.is (index_below args r.value few r.passes)))
+      | inl there ↦
+          (let r = read number_of (is_among m) (value_at fixed t) there out_fixed in
+          inl (below (2 ^ 32) (number_at fixed t) r.value r.is (among_below m (2 ^ 32) r.value high r.passes)))
+      | inr missing ↦
+          (let r = read number_of (is_index args) (value_at index t) (other missing) out_index in
+          inr (absent number_of (value_at fixed t) missing, below 256 (number_at index t) r.value r.is (index_below args r.value few r.passes)))
     ]
 
 module _ (reply : List ℕ) (args : ℕ) (t : Members) (s : Sound STUB_KEYS reply args t) where
@@ -100,17 +100,17 @@ module _ (reply : List ℕ) (args : ℕ) (t : Members) (s : Sound STUB_KEYS repl
 number_there : (args : ℕ) (t : Members) → Sound STUB_KEYS (codes "number") args t → IsBelow (2 ^ 32) (number_at key.Number t)
 number_there args t s =
     let r =
-        read number_of (is_among words) (value_at key.Number t)
-        (not-false (is_some (value_at key.Number t)) (none_at (is_missing (codes "number") t) STUB_KEYS 3 s.required))
-        (none_at (is_out args t) STUB_KEYS 3 s.ranged) in
+    read number_of (is_among words) (value_at key.Number t)
+    (not-false (is_some (value_at key.Number t)) (none_at (is_missing (codes "number") t) STUB_KEYS 3 s.required))
+    (none_at (is_out args t) STUB_KEYS 3 s.ranged) in
     below (2 ^ 32) (number_at key.Number t) r.value r.is (among_below words (2 ^ 32) r.value (lit< tt) r.passes)
 
 enter_there : (args : ℕ) (t : Members) → args ≤ 64 → Sound STUB_KEYS (codes "enter") args t → IsBelow 256 (number_at key.EnterArg t)
 enter_there args t few s =
     let r =
-        read number_of (is_index args) (value_at key.EnterArg t)
-        (not-false (is_some (value_at key.EnterArg t)) (none_at (is_missing (codes "enter") t) STUB_KEYS 8 s.required))
-        (none_at (is_out args t) STUB_KEYS 8 s.ranged) in
+    read number_of (is_index args) (value_at key.EnterArg t)
+    (not-false (is_some (value_at key.EnterArg t)) (none_at (is_missing (codes "enter") t) STUB_KEYS 8 s.required))
+    (none_at (is_out args t) STUB_KEYS 8 s.ranged) in
     below 256 (number_at key.EnterArg t) r.value r.is (index_below args r.value few r.passes)
 
 size_there : (args : ℕ) (t : Members) → args ≤ 64 → Sound STUB_KEYS (codes "block") args t → HasAmount key.Size key.SizeArg t
@@ -118,8 +118,8 @@ unfolding has_choices choices_made
 size_there args t few s =
     amount sizes args key.Size key.SizeArg t (lit< tt) few (none_at (is_out args t) STUB_KEYS 4 s.ranged) (none_at (is_out args t) STUB_KEYS 5 s.ranged)
     (λ missing. elim (cases_Bool (is_some (value_at key.SizeArg t))) [
-      inl there ↦ there
-    | inr none ↦ absurd (true≢false (rw (missing, none) at s.chosen))
+      | inl there ↦ there
+      | inr none ↦ absurd (true≢false (rw (missing, none) at s.chosen))
     ])
 
 reply_known : (reply : List ℕ) (args : ℕ) (t : Members) → text_at key.Reply t ≡ Some reply → Sound STUB_KEYS (reply_of t) args t → Sound STUB_KEYS reply args t
@@ -135,7 +135,7 @@ has_reply args t few s =
       reply = reply_there (reply_of t) args t s;
       number = λ e. number_there args t (reply_known (codes "number") args t e s);
       block = λ e. size_there args t few (reply_known (codes "block") args t e s);
-      enter = λ e. enter_there args t few (reply_known (codes "enter") args t e s)
+      enter = λ e. enter_there args t few (reply_known (codes "enter") args t e s);
     }
 
 -- a write
@@ -144,16 +144,16 @@ unfolding has_choices choices_made
 length_there args t few s =
     amount lengths args key.Length key.LengthArg t (lit< tt) few (none_at (is_out args t) WRITE_KEYS 1 s.ranged) (none_at (is_out args t) WRITE_KEYS 2 s.ranged)
     (λ missing. elim (cases_Bool (is_some (value_at key.LengthArg t))) [
-      inl there ↦ there
-    | inr none ↦ absurd (true≢false (rw (missing, none) at s.chosen))
+      | inl there ↦ there
+      | inr none ↦ absurd (true≢false (rw (missing, none) at s.chosen))
     ])
 
 write_there : (args : ℕ) (t : Members) → args ≤ 64 → Sound WRITE_KEYS [] args t → HasWriteOf t
 write_there args t few s =
     let r =
-        read number_of (is_index args) (value_at key.Arg t)
-        (not-false (is_some (value_at key.Arg t)) (none_at (is_missing [] t) WRITE_KEYS 0 s.required))
-        (none_at (is_out args t) WRITE_KEYS 0 s.ranged) in
+    read number_of (is_index args) (value_at key.Arg t)
+    (not-false (is_some (value_at key.Arg t)) (none_at (is_missing [] t) WRITE_KEYS 0 s.required))
+    (none_at (is_out args t) WRITE_KEYS 0 s.ranged) in
     (below 256 (number_at key.Arg t) r.value r.is (index_below args r.value few r.passes), length_there args t few s)
 
 amount_own : (args : ℕ) (fixed index : Key) (t : Members) (a : Amount)
@@ -255,4 +255,4 @@ module _ (t : Members) (w : Whole t) where
       let same : args_of t ≡ s.args = same_Some _ _ (sym args_are ∙ h.args) in
       subst P same
       (and_from (reply_is_own (args_of t) s.reply) (list_all (write_is_own (args_of t)) s.writes.items)
-        (reply_own (args_of t) t s.reply w.stub.ranged h.reply) (writes_own (args_of t) (items_at key.Writes t) s.writes.items h.writes w.write_kinds w.write_ranges))
+      (reply_own (args_of t) t s.reply w.stub.ranged h.reply) (writes_own (args_of t) (items_at key.Writes t) s.writes.items h.writes w.write_kinds w.write_ranges))

@@ -22,8 +22,8 @@ among_at_most n limit [] h e = absurd (false≢true e)
 among_at_most n limit (x ∷ xs) h e =
     let parts = and_parts (nat_le x limit) (list_all (λ x. nat_le x limit) xs) h in
     elim (or_cases (nat_eq n x) (list_any (nat_eq n) xs) e) [
-      inl here ↦ omega (arith, eqb-true n x here, leb-true x limit parts.0)
-    | inr there ↦ among_at_most n limit xs parts.1 there
+      | inl here ↦ omega (arith, eqb-true n x here, leb-true x limit parts.0)
+      | inr there ↦ among_at_most n limit xs parts.1 there
     ]
 
 alignment_at_most : (n : ℕ) → is_alignment n ≡ true → n ≤ 4096

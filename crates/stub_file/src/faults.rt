@@ -61,7 +61,9 @@ fn lacks_required(rules: &[Rule], reply: &str, table: &Table) -> bool
 fn has_choices(rules: &[Rule], reply: &str) -> bool
     ensures { result ≡ has_choices rules.now reply.now }
 {
-    rules.iter().any(|rule| rule.is_choice() && rule.belongs(reply))
+    rules
+        .iter()
+        .any(|rule| rule.is_choice() && rule.belongs(reply))
 }
 
 #[tactic(auto, unfolding(crate::specs::Faults::choices_made))]
@@ -161,9 +163,7 @@ fn write_has(args: u64, fault: StubFault, item: &Value) -> bool
 fn some_write_has(items: &[Value], args: u64, fault: StubFault) -> bool
     ensures { result ≡ list_any (λ item. write_has args fault (view item)) items.now }
 {
-    items
-        .iter()
-        .any(|item| write_has(args, fault, item))
+    items.iter().any(|item| write_has(args, fault, item))
 }
 
 /// Whether the table of a stub, or one of those in its `writes`, has the fault.

@@ -15,3 +15,6 @@ pub use fault::StubFault;
 pub use read::read_stubs;
 pub use stub::{Amount, Reply, Stub, StubWrite};
 pub use stubs::Stubs;
+
+#[cfg(test)]
+mod tests;

@@ -56,11 +56,7 @@ fn read_stub(name: &str, value: &Value) -> Result<Stub, StubFault>
     }
 }
 
-fn insert(
-    stubs: &mut BTreeMap<Vec<u8>, Stub>,
-    key: Vec<u8>,
-    stub: Stub,
-) -> Result<(), StubFault>
+fn insert(stubs: &mut BTreeMap<Vec<u8>, Stub>, key: Vec<u8>, stub: Stub) -> Result<(), StubFault>
     ensures ok { OnOk result (stubs.new.entries ≡ insert_entry (λ x y. slice_cmp nat_cmp x.items y.items) stubs.old.entries key stub) }
     ensures err { IfErr result (λ fault. fault ≡ StubFault.Memory) }
 {

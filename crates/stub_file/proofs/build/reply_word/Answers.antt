@@ -10,10 +10,10 @@ pub unreachable-requires : goal.unreachable-requires
 unfolding reply_of
 unreachable-requires c =
     word_there (text_at key.Reply (table_view c.args.table.now)) c.requires
-        (rw (← c.reply_of.ensures) (sym c.word_named.ensures ∙ c.in-None.is))
+    (rw (← c.reply_of.ensures) (sym c.word_named.ensures ∙ c.in-None.is))
 
 pub returns : goal.returns
 unfolding reply_of
 returns c =
     word_is (text_at key.Reply (table_view c.args.table.now)) c.in-Some.word c.requires
-        (rw (← c.reply_of.ensures) (sym c.word_named.ensures ∙ c.in-Some.is))
+    (rw (← c.reply_of.ensures) (sym c.word_named.ensures ∙ c.in-Some.is))

@@ -39,7 +39,7 @@ writes_of-requires-clause-writes c =
     let t = table_view c.args.table.now in
     let w = whole t c.requires in
     all_writes (args_of t) (args_few t w) c.items_at.result.now
-        (rw c.items_at.ensures (writes_typed t w)) (rw c.items_at.ensures w.write_kinds) (rw c.items_at.ensures w.write_ranges)
+    (rw c.items_at.ensures (writes_typed t w)) (rw c.items_at.ensures w.write_kinds) (rw c.items_at.ensures w.write_ranges)
 
 pub returns : goal.returns
 unfolding args_of
@@ -47,10 +47,10 @@ returns c =
     let t = table_view c.args.table.now in
     let w = whole t c.requires in
     let stated : IsStubOf t (record { args = c.byte_at.result; cleans = c.byte_at-2.result; reply = c.reply_at.result; writes = c.writes_of.result }) =
-        record {
-          args = rw c.byte_at.ensures (args_are t w);
-          cleans = sym c.byte_at-2.ensures;
-          reply = c.reply_at.ensures;
-          writes = rw (← c.items_at.ensures) (zip_map view IsWrite c.items_at.result.now c.writes_of.result.items c.writes_of.ensures)
-        } in
+    record {
+      args = rw c.byte_at.ensures (args_are t w);
+      cleans = sym c.byte_at-2.ensures;
+      reply = c.reply_at.ensures;
+      writes = rw (← c.items_at.ensures) (zip_map view IsWrite c.items_at.result.now c.writes_of.result.items c.writes_of.ensures);
+    } in
     record { stated = stated; own = stub_own t w _ stated }

@@ -12,5 +12,5 @@ push-requires c =
 pub loop-item-preserved : goal.loop-item-preserved
 loop-item-preserved c =
     rw c.push.ensures.items
-        (zip_more (λ item w. IsWrite (view item) w) c.args.items.now c.loop-item.writes.items c.loop-item.item-index c.item-item.result c.write_of.result
-            c.loop-item-test.true c.item-item.is c.loop-item.invariant c.write_of.ensures)
+    (zip_more (λ item w. IsWrite (view item) w) c.args.items.now c.loop-item.writes.items c.loop-item.item-index c.item-item.result c.write_of.result
+    c.loop-item-test.true c.item-item.is c.loop-item.invariant c.write_of.ensures)

@@ -7,4 +7,4 @@ use Rattle.stub_file.proofs.rules.are_tables.Goals as goal
 pub returns-then-is_array : goal.returns-then-is_array
 returns-then-is_array c =
     rw (← c.if-is_array.ensures, ← c.items_of.ensures)
-        (c.are_all_tables.ensures ∙ sym (list_all-map (λ d. is_some (as_table d)) view c.items_of.result.now))
+    (c.are_all_tables.ensures ∙ sym (list_all-map (λ d. is_some (as_table d)) view c.items_of.result.now))

@@ -11,4 +11,4 @@ returns-clause-found c = rw (← c.self.view_is) (c.get.ensures.value ∙ lookup
 pub returns-clause-own : goal.returns-clause-own
 returns-clause-own c =
     copied (λ s. IsTrue (has_own_arguments s)) c.get.result
-        (rw c.get.ensures.value (own_found (λ k. is_eq (slice_cmp nat_cmp c.args.name.now k.items)) c.self.inside.stubs.entries c.self.invariant.1))
+    (rw c.get.ensures.value (own_found (λ k. is_eq (slice_cmp nat_cmp c.args.name.now k.items)) c.self.inside.stubs.entries c.self.invariant.1))
