@@ -1,6 +1,5 @@
 -- The stubs that were read so far, beside the table.
-use Rattle.std.proofs.Common.{◌≡◌, ◌∙◌, ℕ, Bool, true, ◌&&◌, List, [], ◌∷◌, ◌++◌, map, Option, Some, None, String, Global, string_bytes, append-nil, refl, ap, sym, subst, nat_cmp, inl, inr, ◌⊎◌, Less}
-use Rattle.std.specs.BTreeMap.{insert_entry}
+use Rattle.std.proofs.Common.{◌≡◌, ◌∙◌, ℕ, true, List, [], ◌∷◌, ◌++◌, map, Some, String, Global, string_bytes, append-nil, refl, ap, sym, subst, nat_cmp, inl, inr, Less}
 use Rattle.std.specs.Cmp.Lexicographic.{slice_cmp}
 use Rattle.std.specs.List.{AllByRecursion}
 use Rattle.std.specs.List.Sorted.{IsStrictlySortedBy}

@@ -1,6 +1,6 @@
 -- What a table without a fault says at each of its keys.
 use Rattle.std.specs.Option.{option_map_or}
-use Rattle.std.proofs.Common.{◌≡◌, ◌∙◌, ℕ, ◌≤◌, ◌<◌, ◌^◌, ◌/◌, ◌%◌, ◌==◌, IsSomeAnd, IsTrue, Bool, true, false, not, ◌&&◌, ◌||◌, List, [], ◌∷◌, map, All, Option, Some, None, is_some, codes, length, nat_le, unwrap_or, refl, sym, subst, inl, inr, lit<, arith}
+use Rattle.std.proofs.Common.{◌≡◌, ◌∙◌, ℕ, ◌≤◌, ◌<◌, ◌^◌, ◌/◌, ◌%◌, ◌==◌, IsSomeAnd, IsTrue, true, false, not, ◌&&◌, ◌||◌, List, [], ◌∷◌, map, All, Option, Some, None, is_some, codes, length, nat_le, unwrap_or, refl, sym, subst, inl, inr, lit<, arith}
 use Rattle.std.specs.List.{AllZip, list_all, list_any}
 use Rattle.std.proofs.lemmas.Bool.{and_from, and_parts, cases_Bool, false≢true, leb-true, ltb-true, not-false, or_parts, true≢false}
 use Rattle.std.proofs.lemmas.List.Elements.{All-cons, All-nil}

@@ -1,5 +1,5 @@
 -- What each line of a table of keys says, where no line tells a fault.
-use Rattle.std.proofs.Common.{◌≡◌, ◌∙◌, ap, sym, IsSomeAnd, IsTrue, bytes_eq, unwrap_or, arith, ℕ, ◌≤◌, zero, suc, Bool, true, false, not, ◌||◌, ◌⊎◌, cond, List, [], ◌∷◌, Option, Some, None, IsSome, is_some, slice_get, option_and_then, refl, inl, inr, find}
+use Rattle.std.proofs.Common.{◌≡◌, ◌∙◌, ap, sym, IsSomeAnd, IsTrue, bytes_eq, unwrap_or, arith, ℕ, ◌≤◌, zero, suc, Bool, true, false, not, ◌||◌, cond, List, [], ◌∷◌, Option, Some, None, is_some, slice_get, option_and_then, refl, find}
 use Rattle.std.specs.List.{list_all, list_any}
 use Rattle.std.specs.Option.{option_map_or}
 use Rattle.std.proofs.lemmas.Bool.{and_parts, or_parts, false≢true, not-false}

@@ -1,5 +1,5 @@
 -- The top level, and the refusal that a fault is.
-use Rattle.std.proofs.Common.{◌≡◌, ◌≤◌, ℕ, Bool, true, false, not, ◌||◌, ◌&&◌, List, [], ◌∷◌, Option, Some, None, nat_eq, nat_le, unwrap_or, find, option_and_then, refl, sym, inl, inr, cond, arith, ◌∙◌, ◌⊎◌}
+use Rattle.std.proofs.Common.{◌≡◌, ◌≤◌, ℕ, Bool, true, false, not, List, [], ◌∷◌, Option, Some, None, nat_eq, nat_le, unwrap_or, find, option_and_then, refl, sym, inl, inr, cond, arith}
 use Rattle.std.specs.List.{list_all, list_any}
 use Rattle.std.specs.Option.{option_map_or}
 use Rattle.std.proofs.lemmas.Bool.{and_parts, eqb-true, false≢true, leb-true, not-false, or_cases}

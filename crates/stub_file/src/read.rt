@@ -78,7 +78,7 @@ fn put(
 {
     let stub = match read_stub(name, value) {
         Ok(stub) => stub,
-        Err(fault) => return Err(fault),
+        Err(first) => return Err(first),
     };
     let key = match Vec::from_slice(alloc, name.as_bytes()) {
         Ok(key) => key,

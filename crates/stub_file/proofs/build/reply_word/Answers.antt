@@ -1,4 +1,4 @@
-use Rattle.std.proofs.Common.{◌≡◌, ◌∙◌, sym, find, Some, None, unwrap_or, bytes_eq, rules}
+use Rattle.std.proofs.Common.{◌∙◌, sym}
 use Rattle.stub_file.specs.Document.{text_at}
 use Rattle.stub_file.specs.Faults.{reply_of}
 use Rattle.stub_file.specs.declared.keys.Key.TheVariants as key

@@ -1,4 +1,4 @@
-use Rattle.std.proofs.Common.{◌≡◌, ◌∙◌, ◌≤◌, ◌<◌, ap, arith, length, map, sym, unwrap_or}
+use Rattle.std.proofs.Common.{◌∙◌, ◌≤◌, ap, arith, length, sym, unwrap_or}
 use Rattle.std.proofs.lemmas.List.{length-map}
 use Rattle.toml.specs.View.{table_view, view}
 use Rattle.stub_file.specs.Document.{number_at}

@@ -1,4 +1,4 @@
-use Rattle.std.proofs.Common.{◌≡◌, ◌≤◌, ◌∙◌, arith, unwrap_or, true}
+use Rattle.std.proofs.Common.{◌≤◌, arith, unwrap_or}
 use Rattle.toml.specs.View.{table_view}
 use Rattle.stub_file.specs.Document.{number_at}
 use Rattle.stub_file.specs.declared.keys.Key.TheVariants as key
