@@ -1,7 +1,7 @@
 -- Laws of the order of areas, and of intervals.
-use Rattle.std.proofs.Common.{◌≡◌, ℕ, Bool, true, false, refl, sym, ap, ◌∙◌, subst, arith, ℤ, pos, negsuc, ◌+ℤ◌, ◌-ℤ◌, ◌≤ℤ◌, ◌<ℤ◌, inl, inr}
+use Rattle.std.proofs.Common.{◌≡◌, ℕ, Bool, true, false, refl, sym, ap, ◌∙◌, subst, arith, ℤ, pos, negsuc, ◌+ℤ◌, ◌-ℤ◌, ◌≤ℤ◌, ◌<ℤ◌, inl, inr, w64, to_z, of_z, FitsSigned}
 use Rattle.std.specs.Prelude.{◌||◌, ◌&&◌, ◌⊎◌, int_le, int_lt}
-use Rattle.std.proofs.lemmas.Int.{ints, int_max_is, int_min_is}
+use Rattle.std.proofs.lemmas.Int.{ints, int_max_is, int_min_is, to_z-of_z}
 use Rattle.std.proofs.lemmas.Grind.{common_steps}
 use Rattle.std.specs.declared.cmp.Ordering.{Ordering}
 use Rattle.std.specs.declared.cmp.Ordering.TheVariants.{Less, Equal, Greater}
@@ -15,7 +15,7 @@ use Rattle.partitioned_memory.specs.declared.area.Area.{Area}
 use Rattle.partitioned_memory.specs.declared.area.Area.TheVariants.{Image, In}
 use Rattle.partitioned_memory.specs.declared.area.Interval.{Interval}
 use Rattle.partitioned_memory.specs.contracts.area.AreaOrd.TheImpl as order
-use Rattle.partitioned_memory.specs.Areas.{area_cmp, same_area, by_area, is_before, is_left, is_off, hull}
+use Rattle.partitioned_memory.specs.Areas.{IsInside, interval_to, area_cmp, same_area, by_area, is_before, is_left, is_off, hull}
 
 -- ---- areas
 
@@ -79,6 +79,20 @@ int_le-from x y h = grind (arith, ints, common_steps)
 
 pub int_lt-from : (x y : ℤ) → x <ℤ y → int_lt x y ≡ true
 int_lt-from x y h = grind (arith, ints, common_steps)
+
+-- what a failed test of two offsets says
+not_below : (low high : ℤ) → FitsSigned w64 low → FitsSigned w64 high → int_lt (to_z w64 (of_z w64 high)) (to_z w64 (of_z w64 low)) ≡ false → low ≤ℤ high
+not_below low high p q e =
+    int_lt-false high low (ap (λ z. int_lt z low) (sym (to_z-of_z w64 high q)) ∙ ap (λ z. int_lt (to_z w64 (of_z w64 high)) z) (sym (to_z-of_z w64 low p)) ∙ e)
+
+-- offsets of 64 bits, as a call passes them on
+passed : (z : ℤ) → FitsSigned w64 z → to_z w64 (of_z w64 z) ≡ z
+passed z h = to_z-of_z w64 z h
+
+pub inside-passed : (a : Area) (low high : ℤ) (i : Interval) → FitsSigned w64 low → FitsSigned w64 high → int_lt (to_z w64 (of_z w64 high)) (to_z w64 (of_z w64 low)) ≡ false → (low ≤ℤ high → IsInside (interval_to a low high)) → i ≡ interval_to a (to_z w64 (of_z w64 low)) (to_z w64 (of_z w64 high)) → IsInside i
+inside-passed a low high i p q e h k =
+    let same = k ∙ ap (λ z. interval_to a z (to_z w64 (of_z w64 high))) (passed low p) ∙ ap (λ z. interval_to a low z) (passed high q) in
+    subst IsInside (sym same) (h (not_below low high p q e))
 
 -- the first is of an earlier area, or of the same one and lies so
 pub Lies : (ℤ → ℤ → Type 0) → Interval → Interval → Type 0

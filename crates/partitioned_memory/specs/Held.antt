@@ -190,13 +190,13 @@ after_exact d a low w v h =
       blocks = h.blocks;
     }
 
+-- any bytes of an interval are written
+abbrev pub after_interval : {D : Type 0} → Interval → Held D → Held D
+after_interval i h = record { facts = facts_off i h.facts; dirty = dirty_after i h.dirty; blocks = h.blocks }
+
 -- any bytes from one offset to another, both included, are written
 abbrev pub after_inside : {D : Type 0} → Area → ℤ → ℤ → Held D → Held D
-after_inside a low high h =
-    if int_lt high low then h
-    else
-      let i = interval_to a low high in
-      record { facts = facts_off i h.facts; dirty = dirty_after i h.dirty; blocks = h.blocks }
+after_inside a low high h = if int_lt high low then h else after_interval (interval_to a low high) h
 
 -- the facts of the stack with a byte below an offset go
 abbrev pub after_forgetting : {D : Type 0} → ℤ → Held D → Held D

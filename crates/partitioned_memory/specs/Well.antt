@@ -1,13 +1,13 @@
 -- What is always so of the parts.
-use Rattle.std.specs.Prelude.{◌≡◌, ℕ, ◌^◌, ◌<◌, true, false, ◌==◌, List, Option, Some, None, ⊤, ℤ, pos, ◌≤ℤ◌}
+use Rattle.std.specs.Prelude.{◌≡◌, ℕ, ◌^◌, ◌<◌, true, false, ◌==◌, List, Option, Some, None, ⊤, ◌<ℤ◌}
 use Rattle.bit_words.specs.declared.width.Width.{Width}
 use Rattle.bit_words.specs.Width.{bits_of}
 use Rattle.address_regions.specs.declared.region.Region.{Region}
 use Rattle.address_regions.specs.Extents.{has_one_base}
 use Rattle.domain_laws.specs.Laws.{Values}
 use Rattle.domain_laws.specs.Reached.{named}
+use Rattle.partitioned_memory.specs.declared.area.Interval.{Interval}
 use Rattle.partitioned_memory.specs.declared.fact.Fact.{Fact}
-use Rattle.partitioned_memory.specs.declared.fact.Dirty.{Dirty}
 use Rattle.partitioned_memory.specs.declared.fact.Counted.{Counted}
 use Rattle.partitioned_memory.specs.Areas.{IsInside, is_marked, block_in}
 use Rattle.partitioned_memory.specs.Lists.{Every, Ascends}
@@ -35,11 +35,11 @@ pub record IsWellFact {D : Type 0} (d : Values D) (blocks : List Counted) (f : F
   pub holds : MayHold d blocks f.w f.value
 
 -- a dirty range has a byte, and lies in the image or in a zeroed block that is counted
-pub record IsWellDirty (blocks : List Counted) (r : Dirty) : Type 0 where
-  pub filled : pos 1 ≤ℤ r.size
-  pub inside : IsInside (interval_of_dirty r)
-  pub marked : is_marked r.area ≡ true
-  pub counted : HasCount blocks (block_in r.area)
+pub record IsWellDirty (blocks : List Counted) (i : Interval) : Type 0 where
+  pub filled : i.low <ℤ i.end
+  pub inside : IsInside i
+  pub marked : is_marked i.area ≡ true
+  pub counted : HasCount blocks (block_in i.area)
 
 abbrev pub IsBlock : Counted → Type 0
 IsBlock c = has_one_base c.region ≡ false
@@ -49,6 +49,6 @@ pub record IsWell {D : Type 0} (d : Values D) (h : Held D) : Type 0 where
   pub facts_ascend : Ascends fact_before h.facts
   pub facts : Every (IsWellFact d h.blocks) h.facts
   pub dirty_ascends : Ascends dirty_before h.dirty
-  pub dirty : Every (IsWellDirty h.blocks) h.dirty
+  pub dirty : Every (λ r. IsWellDirty h.blocks (interval_of_dirty r)) h.dirty
   pub blocks_ascend : Ascends count_before h.blocks
   pub blocks : Every IsBlock h.blocks

@@ -1,10 +1,10 @@
-ghost use Rattle.std.specs.Prelude.{◌≡◌, ◌&&◌, IfOk, OnErr, OnOk, false, pos, ◌+ℤ◌, ◌≤ℤ◌, slice_get};
+ghost use Rattle.std.specs.Prelude.{◌≡◌, ◌&&◌, IfOk, OnErr, OnOk, false, pos, ◌≤ℤ◌, ◌<ℤ◌, slice_get};
 ghost use Rattle.std.specs.List.{list_all};
 ghost use Rattle.bit_words.specs.Width.{bytes_of};
 ghost use Rattle.address_regions.specs.Extents.{has_one_base};
 ghost use Rattle.domain_laws.specs.Made.{values_of};
 ghost use Rattle.partitioned_memory.specs.Areas.{IsInside, block_in, interval_at, interval_to};
-ghost use Rattle.partitioned_memory.specs.Held.{after_block, after_exact, after_fact, after_forgetting, after_inside, covers_held, nothing_held, read_of};
+ghost use Rattle.partitioned_memory.specs.Held.{after_block, after_exact, after_fact, after_forgetting, after_inside, after_interval, covers_held, nothing_held, read_of};
 ghost use Rattle.partitioned_memory.specs.Well.{HasCount, MayHold, IsWell};
 
 use crate::area::{Area, Interval};
@@ -139,10 +139,20 @@ impl<D: Domain> Parts<D> {
         ensures err { OnErr result (self.new ≡ self.old) }
     {
         if high < low {
-            return Ok(());
+            Ok(())
+        } else {
+            self.write_over(Interval::to(area, low, high))
         }
+    }
+
+    fn write_over(&mut self, written: Interval) -> Result<(), NoMemory>
+        requires filled { written.low <ℤ written.end }
+        requires inside { IsInside written }
+        requires counted { HasCount self.old.blocks (block_in written.area) }
+        ensures ok { OnOk result (self.new ≡ after_interval written self.old) }
+        ensures err { OnErr result (self.new ≡ self.old) }
+    {
         let alloc = self.alloc();
-        let written = Interval::to(area, low, high);
         let facts = facts_off(alloc, &self.facts, written)?;
         let dirty = dirty_after(alloc, &self.dirty, written)?;
         self.facts = facts;
