@@ -110,9 +110,9 @@ AreWell-put d blocks a low w v facts holds h =
     elim (d.rank v == 0) as (λ b. (d.rank v == 0) ≡ b → AreWell d blocks (cond b (filter (λ f. not (is_at a low w f)) facts) (map (fact_given a low w v) facts))) [
       | true ↦ λ e. AreWell-filter d blocks (λ f. not (is_at a low w f)) facts h
       | false ↦ λ e. record {
-          ascend = Ascends-map fact_before (fact_given a low w v) facts (λ f g k. ap (λ i. is_before i (interval_of_fact (fact_given a low w v g))) (given-interval a low w v f) ∙ ap (λ i. is_before (interval_of_fact f) i) (given-interval a low w v g) ∙ k) h.ascend;
-          each = Every-map (IsWellFact d blocks) (IsWellFact d blocks) (fact_given a low w v) facts (λ f k. given-well d blocks a low w v f e holds k) h.each;
-        }
+        ascend = Ascends-map fact_before (fact_given a low w v) facts (λ f g k. ap (λ i. is_before i (interval_of_fact (fact_given a low w v g))) (given-interval a low w v f) ∙ ap (λ i. is_before (interval_of_fact f) i) (given-interval a low w v g) ∙ k) h.ascend;
+        each = Every-map (IsWellFact d blocks) (IsWellFact d blocks) (fact_given a low w v) facts (λ f k. given-well d blocks a low w v f e holds k) h.each;
+      }
     ] refl
 
 -- ---- dirty ranges
@@ -185,9 +185,9 @@ pub AreWellDirty-after : (blocks : List Counted) (i : Interval) (dirty : List Di
 AreWellDirty-after blocks i dirty filled inside counted h =
     elim (is_marked i.area) as (λ b. is_marked i.area ≡ b → AreWellDirty blocks (cond b (dirty_with i dirty) dirty)) [
       | true ↦ λ e. record {
-          ascend = Ascends-dirty_with i dirty (Every-weaker (λ r. IsWellDirty blocks (interval_of_dirty r)) (λ r. (interval_of_dirty r).low ≤ℤ (interval_of_dirty r).end) dirty (λ r k. k.inside.bounded.ordered) h.each) h.ascend;
-          each = Every-dirty_with (IsWellDirty blocks) i dirty (hull-well blocks) (record { filled = filled; inside = inside; marked = e; counted = counted }) h.each;
-        }
+        ascend = Ascends-dirty_with i dirty (Every-weaker (λ r. IsWellDirty blocks (interval_of_dirty r)) (λ r. (interval_of_dirty r).low ≤ℤ (interval_of_dirty r).end) dirty (λ r k. k.inside.bounded.ordered) h.each) h.ascend;
+        each = Every-dirty_with (IsWellDirty blocks) i dirty (hull-well blocks) (record { filled = filled; inside = inside; marked = e; counted = counted }) h.each;
+      }
       | false ↦ λ e. h
     ] refl
 
@@ -269,13 +269,13 @@ pub AreWellCounts-more : (r : Region) (blocks : List Counted) → has_one_base r
 AreWellCounts-more r blocks block h =
     elim (is_counted r blocks) as (λ b. is_counted r blocks ≡ b → AreWellCounts (cond b (map (counted_again r) blocks) (placed count_before (one_block r) blocks))) [
       | true ↦ λ e. record {
-          ascend = Ascends-map count_before (counted_again r) blocks (λ c f k. ap (λ q. by_area (area_cmp (In q) (In (counted_again r f).region)) false) (again-region r c) ∙ ap (λ q. by_area (area_cmp (In c.region) (In q)) false) (again-region r f) ∙ k) h.ascend;
-          each = Every-map IsBlock IsBlock (counted_again r) blocks (λ c k. ap has_one_base (again-region r c) ∙ k) h.each;
-        }
+        ascend = Ascends-map count_before (counted_again r) blocks (λ c f k. ap (λ q. by_area (area_cmp (In q) (In (counted_again r f).region)) false) (again-region r c) ∙ ap (λ q. by_area (area_cmp (In c.region) (In q)) false) (again-region r f) ∙ k) h.ascend;
+        each = Every-map IsBlock IsBlock (counted_again r) blocks (λ c k. ap has_one_base (again-region r c) ∙ k) h.each;
+      }
       | false ↦ λ e. record {
-          ascend = Ascends-placed count_before count_before-trans (one_block r) blocks h.ascend (Every-weaker (λ c. same_region c.region r ≡ false) (λ c. (count_before c (one_block r) || count_before (one_block r) c) ≡ true) blocks (λ c k. count_before-either c r k) (Every-none (λ c. same_region c.region r) blocks e));
-          each = Every-placed IsBlock count_before (one_block r) blocks block h.each;
-        }
+        ascend = Ascends-placed count_before count_before-trans (one_block r) blocks h.ascend (Every-weaker (λ c. same_region c.region r ≡ false) (λ c. (count_before c (one_block r) || count_before (one_block r) c) ≡ true) blocks (λ c k. count_before-either c r k) (Every-none (λ c. same_region c.region r) blocks e));
+        each = Every-placed IsBlock count_before (one_block r) blocks block h.each;
+      }
     ] refl
 
 -- ---- more counts for the same facts and ranges
@@ -339,26 +339,26 @@ exact-kept d f facts new dirty marked blocks w h e k =
     let old = held facts dirty blocks in
     let filled : f.low <ℤ (interval_of_fact f).end = width-filled f.low f.w in
     IsWell-from d (held new marked blocks)
-        (subst (AreWell d blocks) (sym e) (AreWell-with d blocks f facts w (AreWell-of d old h)))
-        (subst (AreWellDirty blocks) (sym k) (AreWellDirty-after blocks (interval_of_fact f) dirty filled w.inside w.counted (AreWellDirty-of d old h)))
-        (AreWellCounts-of d old h)
+    (subst (AreWell d blocks) (sym e) (AreWell-with d blocks f facts w (AreWell-of d old h)))
+    (subst (AreWellDirty blocks) (sym k) (AreWellDirty-after blocks (interval_of_fact f) dirty filled w.inside w.counted (AreWellDirty-of d old h)))
+    (AreWellCounts-of d old h)
 
 pub inside-kept : {D : Type 0} (d : Values D) (i : Interval) (facts new : List (Fact D)) (dirty marked : List Dirty) (blocks : List Counted) → i.low <ℤ i.end → IsInside i → HasCount blocks (block_in i.area) → IsWell d (record { facts = facts; dirty = dirty; blocks = blocks }) → new ≡ facts_off i facts → marked ≡ dirty_after i dirty → IsWell d (record { facts = new; dirty = marked; blocks = blocks })
 inside-kept d i facts new dirty marked blocks filled inside counted h e k =
     let old = held facts dirty blocks in
     IsWell-from d (held new marked blocks)
-        (subst (AreWell d blocks) (sym e) (AreWell-filter d blocks (λ f. is_off (interval_of_fact f) i) facts (AreWell-of d old h)))
-        (subst (AreWellDirty blocks) (sym k) (AreWellDirty-after blocks i dirty filled inside counted (AreWellDirty-of d old h)))
-        (AreWellCounts-of d old h)
+    (subst (AreWell d blocks) (sym e) (AreWell-filter d blocks (λ f. is_off (interval_of_fact f) i) facts (AreWell-of d old h)))
+    (subst (AreWellDirty blocks) (sym k) (AreWellDirty-after blocks i dirty filled inside counted (AreWellDirty-of d old h)))
+    (AreWellCounts-of d old h)
 
 pub block-kept : {D : Type 0} (d : Values D) (r : Region) (facts new : List (Fact D)) (dirty : List Dirty) (blocks more : List Counted) → has_one_base r ≡ false → IsWell d (record { facts = facts; dirty = dirty; blocks = blocks }) → new ≡ facts_beside r blocks facts → more ≡ counted_more r blocks → IsWell d (record { facts = new; dirty = dirty; blocks = more })
 block-kept {D} d r facts new dirty blocks more block h e k =
     let old = held facts dirty blocks in
     let w : IsWell d (held (facts_beside r blocks facts) dirty (counted_more r blocks)) =
-        IsWell-from d (held (facts_beside r blocks facts) dirty (counted_more r blocks))
-            (AreWell-beside d r blocks facts (AreWell-of d old h))
-            (AreWellDirty-more r blocks dirty (AreWellDirty-of d old h))
-            (AreWellCounts-more r blocks block (AreWellCounts-of d old h)) in
+    IsWell-from d (held (facts_beside r blocks facts) dirty (counted_more r blocks))
+    (AreWell-beside d r blocks facts (AreWell-of d old h))
+    (AreWellDirty-more r blocks dirty (AreWellDirty-of d old h))
+    (AreWellCounts-more r blocks block (AreWellCounts-of d old h)) in
     subst (λ (fs : List (Fact D)). IsWell d (held fs dirty more)) (sym e) (subst (λ (bs : List Counted). IsWell d (held (facts_beside r blocks facts) dirty bs)) (sym k) w)
 
 -- what a loop over the dirty ranges may rest on

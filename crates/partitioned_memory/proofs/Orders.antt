@@ -135,13 +135,13 @@ unfolding Lies
 Lies-trans R i j k f g h =
     elim g [
       | inl l ↦ elim h [
-          | inl m ↦ inl (area_total.trans i.area j.area k.area l m)
-          | inr n ↦ inl (ap (λ a. area_cmp i.area a) (sym n.0) ∙ l)
-        ]
+        | inl m ↦ inl (area_total.trans i.area j.area k.area l m)
+        | inr n ↦ inl (ap (λ a. area_cmp i.area a) (sym n.0) ∙ l)
+      ]
       | inr b ↦ elim h [
-          | inl m ↦ inl (ap (λ a. area_cmp a k.area) b.0 ∙ m)
-          | inr n ↦ inr (b.0 ∙ n.0, f b.1 n.1)
-        ]
+        | inl m ↦ inl (ap (λ a. area_cmp a k.area) b.0 ∙ m)
+        | inr n ↦ inr (b.0 ∙ n.0, f b.1 n.1)
+      ]
     ]
 
 pub is_before-trans : (i j k : Interval) → j.low ≤ℤ j.end → is_before i j ≡ true → is_before j k ≡ true → is_before i k ≡ true
@@ -168,13 +168,13 @@ pub touching : (i j : Interval) → is_left i j ≡ false → is_left j i ≡ fa
 touching i j e h =
     elim (not_left i j e) [
       | inl l ↦ elim (not_left j i h) [
-          | inl m ↦ absurd (let r = area_total.antisymm i.area j.area in let k : Greater ≡ Less = sym l ∙ r ∙ ap ordering_reverse m in cc)
-          | inr n ↦ absurd (let k : Greater ≡ Equal = sym l ∙ ap (λ a. area_cmp i.area a) n.0 ∙ area_cmp-refl i.area in cc)
-        ]
+        | inl m ↦ absurd (let r = area_total.antisymm i.area j.area in let k : Greater ≡ Less = sym l ∙ r ∙ ap ordering_reverse m in cc)
+        | inr n ↦ absurd (let k : Greater ≡ Equal = sym l ∙ ap (λ a. area_cmp i.area a) n.0 ∙ area_cmp-refl i.area in cc)
+      ]
       | inr b ↦ elim (not_left j i h) [
-          | inl m ↦ absurd (let k : Greater ≡ Equal = sym m ∙ ap (λ a. area_cmp j.area a) b.0 ∙ area_cmp-refl j.area in cc)
-          | inr n ↦ record { area = b.0; low = b.1; high = n.1 }
-        ]
+        | inl m ↦ absurd (let k : Greater ≡ Equal = sym m ∙ ap (λ a. area_cmp j.area a) b.0 ∙ area_cmp-refl j.area in cc)
+        | inr n ↦ record { area = b.0; low = b.1; high = n.1 }
+      ]
     ]
 
 -- what lies to the left of two intervals that touch lies to the left of both as one
@@ -184,7 +184,7 @@ left-hull k i j s e h =
     elim (left-lies k i e) [
       | inl l ↦ left-from k (hull i j) (inl l)
       | inr b ↦ elim (left-lies k j h) [
-          | inl m ↦ absurd (let q : Less ≡ Equal = sym m ∙ ap (λ a. area_cmp a j.area) (b.0 ∙ s) ∙ area_cmp-refl j.area in cc)
-          | inr n ↦ left-from k (hull i j) (inr (b.0, omega (arith, ints, int_min_is i.low j.low, b.1, n.1)))
-        ]
+        | inl m ↦ absurd (let q : Less ≡ Equal = sym m ∙ ap (λ a. area_cmp a j.area) (b.0 ∙ s) ∙ area_cmp-refl j.area in cc)
+        | inr n ↦ left-from k (hull i j) (inr (b.0, omega (arith, ints, int_min_is i.low j.low, b.1, n.1)))
+      ]
     ]

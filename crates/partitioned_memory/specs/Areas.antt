@@ -39,12 +39,17 @@ abbrev pub is_marked : Area → Bool
 is_marked Image = true
 is_marked (In r) = is_zeroed r
 
+-- from one offset on and below another
+abbrev pub interval_between : Area → ℤ → ℤ → Interval
+interval_between a low end = record { area = a; low = low; end = end }
+
+-- a number of bytes from an offset on
 abbrev pub interval_at : Area → ℤ → ℤ → Interval
-interval_at a low size = record { area = a; low = low; end = low +ℤ size }
+interval_at a low size = interval_between a low (low +ℤ size)
 
 -- from one offset to another, both included
 abbrev pub interval_to : Area → ℤ → ℤ → Interval
-interval_to a low high = record { area = a; low = low; end = high +ℤ pos 1 }
+interval_to a low high = interval_between a low (high +ℤ pos 1)
 
 -- an offset is one of an area's bytes
 pub record IsOffset (a : Area) (o : ℤ) : Type 0 where

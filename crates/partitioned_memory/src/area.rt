@@ -1,6 +1,6 @@
-ghost use Rattle.std.specs.Prelude.{◌≡◌};
+ghost use Rattle.std.specs.Prelude.{◌≡◌, ◌↔◌, ◌^◌, IsTrue, neg_ℤ, pos, ◌≤ℤ◌};
 ghost use Rattle.partitioned_memory.specs.Held.{dirty_of};
-ghost use Rattle.partitioned_memory.specs.Areas.{IsBounded, bounds_of, has_byte, hull, interval_at, interval_to, is_before, is_left, is_marked, is_off, is_zeroed};
+ghost use Rattle.partitioned_memory.specs.Areas.{IsBounded, IsInside, bounds_of, has_byte, hull, interval_at, interval_between, interval_to, is_before, is_left, is_marked, is_off, is_zeroed};
 
 use crate::fact::Dirty;
 use address_regions::Region;
@@ -18,12 +18,23 @@ pub enum Area {
 impl Area {
     /// The offsets of its bytes: the least, and the one past the greatest.
     pub fn bounds(self) -> (i64, i64)
-        ensures { result ≡ bounds_of self }
+        ensures value { result ≡ bounds_of self }
+        ensures least { neg_ℤ (pos (2 ^ 32)) ≤ℤ result.0 }
+        ensures greatest { result.1 ≤ℤ pos (2 ^ 32) }
     {
         match self {
             Area::Image => (0, 0x1_0000_0000),
+            Area::In(Region::Block { size, .. }) => (0, i64::from(size)),
             Area::In(region) => region.extent(),
         }
+    }
+
+    /// Whether all bytes from an offset on and below another are bytes of the area; `low` is at most `end`.
+    pub fn contains(self, low: i64, end: i64) -> bool
+        ensures { IsTrue result ↔ IsInside (interval_between self low end) }
+    {
+        let (least, limit) = self.bounds();
+        are_in_order(least, low, end, limit)
     }
 
     /// Whether a write of unknown bytes is remembered: in the image, and in blocks that begin zeroed.
@@ -35,6 +46,12 @@ impl Area {
             Area::In(region) => is_zeroed(region),
         }
     }
+}
+
+fn are_in_order(a: i64, b: i64, c: i64, d: i64) -> bool
+    ensures { IsTrue result ↔ ((a ≤ℤ b) × (b ≤ℤ c) × (c ≤ℤ d)) }
+{
+    a <= b && (b <= c && c <= d)
 }
 
 pub(crate) fn is_zeroed(region: Region) -> bool

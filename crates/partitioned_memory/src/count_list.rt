@@ -33,11 +33,7 @@ pub(crate) fn is_counted(blocks: &[Counted], region: Region) -> bool
     blocks.iter().any(|c| c.is_of(region))
 }
 
-fn count_again(
-    alloc: Global,
-    blocks: &[Counted],
-    region: Region,
-) -> Result<Vec<Counted>, NoMemory>
+fn count_again(alloc: Global, blocks: &[Counted], region: Region) -> Result<Vec<Counted>, NoMemory>
     ensures { IfOk result (λ all. all.items ≡ map (counted_again region) blocks.now) }
 {
     Ok(blocks.iter().map(|c| c.again(region)).collect(alloc)?)
@@ -50,11 +46,7 @@ fn place_of_count(blocks: &[Counted], first: Counted) -> usize
     blocks.iter().take_while(|c| c.is_before(first)).count()
 }
 
-fn count_first(
-    alloc: Global,
-    blocks: &[Counted],
-    region: Region,
-) -> Result<Vec<Counted>, NoMemory>
+fn count_first(alloc: Global, blocks: &[Counted], region: Region) -> Result<Vec<Counted>, NoMemory>
     ensures { IfOk result (λ all. all.items ≡ placed count_before (one_block region) blocks.now) }
 {
     let first = Counted {

@@ -31,11 +31,13 @@ pub(crate) fn facts_off<D: Domain>(
 ) -> Result<Vec<Fact<D>>, NoMemory>
     ensures { IfOk result (λ kept. kept.items ≡ facts_off i facts.now) }
 {
-    Ok(facts
-        .iter()
-        .copied()
-        .filter(|f| f.interval().is_off(i))
-        .collect(alloc)?)
+    Ok(
+        facts
+            .iter()
+            .copied()
+            .filter(|f| f.interval().is_off(i))
+            .collect(alloc)?,
+    )
 }
 
 // Where a fact stands that has the bytes of an interval: after all that come before it.
@@ -49,10 +51,7 @@ fn place_of_fact<D: Domain>(facts: &[Fact<D>], own: Interval) -> usize
 }
 
 // The facts with one more, in order.
-fn place_fact<D: Domain>(
-    mut facts: Vec<Fact<D>>,
-    f: Fact<D>,
-) -> Result<Vec<Fact<D>>, NoMemory>
+fn place_fact<D: Domain>(mut facts: Vec<Fact<D>>, f: Fact<D>) -> Result<Vec<Fact<D>>, NoMemory>
     ensures { IfOk result (λ all. all.items ≡ placed fact_before f facts.items) }
 {
     let at = place_of_fact(&facts, f.interval());
@@ -83,11 +82,13 @@ fn facts_outside<D: Domain>(
 ) -> Result<Vec<Fact<D>>, NoMemory>
     ensures { IfOk result (λ kept. kept.items ≡ facts_outside region facts.now) }
 {
-    Ok(facts
-        .iter()
-        .copied()
-        .filter(|f| !f.is_in(Area::In(region)))
-        .collect(alloc)?)
+    Ok(
+        facts
+            .iter()
+            .copied()
+            .filter(|f| !f.is_in(Area::In(region)))
+            .collect(alloc)?,
+    )
 }
 
 // The facts but for those of the stack with a byte below an offset.
@@ -98,11 +99,13 @@ pub(crate) fn facts_not_below<D: Domain>(
 ) -> Result<Vec<Fact<D>>, NoMemory>
     ensures { IfOk result (λ kept. kept.items ≡ filter (λ f. not (is_stack_below high f)) facts.now) }
 {
-    Ok(facts
-        .iter()
-        .copied()
-        .filter(|f| !f.is_stack_below(high))
-        .collect(alloc)?)
+    Ok(
+        facts
+            .iter()
+            .copied()
+            .filter(|f| !f.is_stack_below(high))
+            .collect(alloc)?,
+    )
 }
 
 // The facts but for that of the spot and width of another.
@@ -113,11 +116,13 @@ fn facts_without<D: Domain>(
 ) -> Result<Vec<Fact<D>>, NoMemory>
     ensures { IfOk result (λ kept. kept.items ≡ filter (λ f. not (is_at new.area new.low new.w f)) facts.now) }
 {
-    Ok(facts
-        .iter()
-        .copied()
-        .filter(|f| !f.is_at(new.area, new.low, new.w))
-        .collect(alloc)?)
+    Ok(
+        facts
+            .iter()
+            .copied()
+            .filter(|f| !f.is_at(new.area, new.low, new.w))
+            .collect(alloc)?,
+    )
 }
 
 // The facts, that of the spot and width of another with its value.

@@ -78,14 +78,7 @@ impl<D: Domain> Parts<D> {
     /// A load at one known place: the value of the fact of that spot and width.
     /// Without one it is the number of the bytes as they were at the start, where each is known and none is dirty, and else any.
     /// At the start the bytes of the image outside of unset ranges are known, and those of zeroed blocks are 0.
-    pub fn read(
-        &self,
-        segments: &Segments,
-        unset: &Ranges,
-        area: Area,
-        low: i64,
-        w: Width,
-    ) -> D
+    pub fn read(&self, segments: &Segments, unset: &Ranges, area: Area, low: i64, w: Width) -> D
         requires { IsInside (interval_at area low (pos (bytes_of w))) }
         ensures { result ≡ read_of (values_of D.Domain.own D.eq) segments.now unset.now area low w self.now }
     {
@@ -233,3 +226,6 @@ impl<D: Domain> Parts<D> {
             && cover_counts(&self.blocks, &s.blocks)
     }
 }
+
+#[cfg(test)]
+mod tests;
