@@ -1,9 +1,8 @@
 -- Each call keeps what is always so of the parts.
-use Rattle.std.proofs.Common.{◌≡◌, ℕ, ◌+◌, ◌^◌, ◌<◌, Bool, true, false, cond, List, [], ◌∷◌, map, filter, Option, Some, None, refl, sym, ap, ◌∙◌, subst, arith, ℤ, pos, negsuc, ◌+ℤ◌, ◌-ℤ◌, ◌≤ℤ◌, ◌<ℤ◌, inl, inr, rules}
-use Rattle.std.specs.Prelude.{◌||◌, ◌&&◌, ◌==◌, ◌⊎◌, not, int_le, int_lt}
+use Rattle.std.proofs.Common.{◌≡◌, Bool, true, false, cond, List, [], ◌∷◌, map, filter, Option, Some, None, refl, sym, ap, ◌∙◌, subst, arith, ℤ, pos, ◌+ℤ◌, ◌-ℤ◌, ◌≤ℤ◌, ◌<ℤ◌, inl, inr}
+use Rattle.std.specs.Prelude.{◌||◌, ◌&&◌, ◌==◌, not}
 use Rattle.std.specs.List.{list_any}
-use Rattle.std.specs.Int.{int_max, int_min}
-use Rattle.std.proofs.lemmas.Bool.{false≢true, or_parts, or_right, or_left, and_parts, eqb-true}
+use Rattle.std.proofs.lemmas.Bool.{false≢true, or_parts, or_right, or_left, and_parts}
 use Rattle.std.proofs.lemmas.Int.{ints, int_max_is, int_min_is}
 use Rattle.std.specs.declared.cmp.Ordering.{Ordering}
 use Rattle.std.specs.declared.cmp.Ordering.TheVariants.{Less, Equal, Greater}
@@ -14,21 +13,21 @@ use Rattle.bit_words.specs.Width.{bytes_of}
 use Rattle.address_regions.specs.declared.region.Region.{Region}
 use Rattle.address_regions.specs.Extents.{has_one_base}
 use Rattle.address_regions.specs.Same.{same_region}
-use Rattle.address_regions.proofs.RegionLaws.{same_region-is, same_region-refl}
+use Rattle.address_regions.proofs.RegionLaws.{same_region-refl}
 use Rattle.domain_laws.specs.Laws.{Values}
 use Rattle.domain_laws.specs.Reached.{named}
 use Rattle.partitioned_memory.specs.declared.area.Area.{Area}
-use Rattle.partitioned_memory.specs.declared.area.Area.TheVariants.{Image, In}
+use Rattle.partitioned_memory.specs.declared.area.Area.TheVariants.{In}
 use Rattle.partitioned_memory.specs.declared.area.Interval.{Interval}
 use Rattle.partitioned_memory.specs.declared.fact.Fact.{Fact}
 use Rattle.partitioned_memory.specs.declared.fact.Dirty.{Dirty}
 use Rattle.partitioned_memory.specs.declared.fact.Counted.{Counted}
-use Rattle.partitioned_memory.specs.Areas.{IsInside, IsBounded, area_cmp, bounds_of, block_in, by_area, hull, interval_at, interval_to, is_before, is_left, is_marked, is_off, same_area}
+use Rattle.partitioned_memory.specs.Areas.{IsInside, IsBounded, area_cmp, bounds_of, block_in, by_area, hull, is_before, is_left, is_marked, is_off, same_area}
 use Rattle.partitioned_memory.specs.Lists.{Every, Ascends, placed}
-use Rattle.partitioned_memory.specs.Held.{Held, count_before, counted_again, counted_more, dirty_after, dirty_before, dirty_of, dirty_with, fact_before, fact_given, facts_beside, facts_off, facts_outside, facts_put, facts_with, interval_of_dirty, interval_of_fact, is_at, is_counted, is_many, is_stack_below, one_block}
+use Rattle.partitioned_memory.specs.Held.{Held, count_before, counted_again, counted_more, dirty_after, dirty_before, dirty_of, dirty_with, fact_before, fact_given, facts_beside, facts_off, facts_outside, facts_put, facts_with, interval_of_dirty, interval_of_fact, is_at, is_counted, is_many, one_block}
 use Rattle.partitioned_memory.specs.Well.{HasCount, IsBlock, IsWell, IsWellDirty, IsWellFact, MayHold}
 use Rattle.partitioned_memory.proofs.ListLaws.{Every-weaker, Every-filter, Every-kept, Every-map, Every-none, Every-placed, Ascends-filter, Ascends-map, Ascends-placed}
-use Rattle.partitioned_memory.proofs.Orders.{Touches, area_total, area_cmp-equal, by_area-true, by_area-less, is_before-trans, is_left-trans, left-hull, same_area-is, touching}
+use Rattle.partitioned_memory.proofs.Orders.{Touches, area_total, area_cmp-equal, by_area-true, by_area-less, is_before-trans, is_left-trans, left-hull, touching}
 
 -- ---- facts
 
@@ -81,7 +80,7 @@ AreWell-with d blocks f facts w h =
 
 -- ---- a value put into a fact
 
-same_width : (v w : Width) → (bytes_of v == bytes_of w) ≡ true → v ≡ w
+pub same_width : (v w : Width) → (bytes_of v == bytes_of w) ≡ true → v ≡ w
 same_width B8 B8 e = refl
 same_width B16 B16 e = refl
 same_width B32 B32 e = refl

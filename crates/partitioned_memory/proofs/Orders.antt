@@ -1,21 +1,20 @@
 -- Laws of the order of areas, and of intervals.
-use Rattle.std.proofs.Common.{◌≡◌, ℕ, Bool, true, false, refl, sym, ap, ◌∙◌, subst, arith, ℤ, pos, negsuc, ◌+ℤ◌, ◌-ℤ◌, ◌≤ℤ◌, ◌<ℤ◌, inl, inr, w64, to_z, of_z, FitsSigned}
-use Rattle.std.specs.Prelude.{◌||◌, ◌&&◌, ◌⊎◌, int_le, int_lt}
-use Rattle.std.proofs.lemmas.Int.{ints, int_max_is, int_min_is, to_z-of_z}
+use Rattle.std.proofs.Common.{◌≡◌, Bool, true, false, refl, sym, ap, ◌∙◌, subst, arith, ℤ, ◌≤ℤ◌, ◌<ℤ◌, inl, inr, w64, to_z, of_z, FitsSigned}
+use Rattle.std.specs.Prelude.{◌⊎◌, int_le, int_lt}
+use Rattle.std.proofs.lemmas.Int.{ints, int_min_is, to_z-of_z}
 use Rattle.std.proofs.lemmas.Grind.{common_steps}
 use Rattle.std.specs.declared.cmp.Ordering.{Ordering}
 use Rattle.std.specs.declared.cmp.Ordering.TheVariants.{Less, Equal, Greater}
 use Rattle.std.specs.Cmp.{IsTotalOrder}
 use Rattle.std.specs.Ordering.{is_eq, ordering_reverse}
 use Rattle.std.proofs.lemmas.Cmp.{tied_itself}
-use Rattle.std.specs.Int.{int_max, int_min}
 use Rattle.address_regions.proofs.RegionLaws.{same_region-is, same_region-refl}
 use Rattle.address_regions.specs.Same.{same_region}
 use Rattle.partitioned_memory.specs.declared.area.Area.{Area}
 use Rattle.partitioned_memory.specs.declared.area.Area.TheVariants.{Image, In}
 use Rattle.partitioned_memory.specs.declared.area.Interval.{Interval}
 use Rattle.partitioned_memory.specs.contracts.area.AreaOrd.TheImpl as order
-use Rattle.partitioned_memory.specs.Areas.{IsInside, interval_to, area_cmp, same_area, by_area, is_before, is_left, is_off, hull}
+use Rattle.partitioned_memory.specs.Areas.{IsInside, interval_to, area_cmp, same_area, by_area, is_before, is_left, hull}
 
 -- ---- areas
 

@@ -1,15 +1,13 @@
 -- What the parts hold, and what each call makes of it.
-use Rattle.std.specs.Prelude.{◌≡◌, ℕ, ◌+◌, ◌*◌, Bool, true, false, not, ◌&&◌, ◌||◌, ◌==◌, List, [], ◌∷◌, map, filter, find, length, Option, Some, None, ℤ, pos, negsuc, ◌+ℤ◌, ◌-ℤ◌, int_lt, int_le, if◌then◌else◌}
+use Rattle.std.specs.Prelude.{ℕ, ◌+◌, ◌*◌, Bool, true, false, not, ◌&&◌, ◌||◌, ◌==◌, List, [], ◌∷◌, map, filter, find, Option, Some, None, ℤ, pos, negsuc, ◌+ℤ◌, ◌-ℤ◌, int_lt, int_le, if◌then◌else◌}
 use Rattle.std.specs.List.{list_any, list_all}
 use Rattle.std.specs.Option.{option_map}
 use Rattle.std.specs.Ordering.{int_eq}
 use Rattle.bit_words.specs.declared.width.Width.{Width}
 use Rattle.bit_words.specs.declared.width.Width.TheVariants.{B8, B16, B32}
 use Rattle.bit_words.specs.Width.{bytes_of}
-use Rattle.memory_map.specs.declared.segment.Segment.{Segment}
 use Rattle.memory_map.specs.declared.span.Span.{Span}
-use Rattle.memory_map.specs.Range.{byte_at}
-use Rattle.memory_map.specs.Map.{range_of}
+use Rattle.memory_map.specs.Range.{Range, byte_at}
 use Rattle.address_ranges.specs.Ranges.{is_in_ranges}
 use Rattle.address_regions.specs.declared.region.Region.{Region}
 use Rattle.address_regions.specs.declared.region.Region.TheVariants.{Stack}
@@ -139,18 +137,18 @@ is_dirty a o dirty = list_any (λ r. has_byte (interval_of_dirty r) a o) dirty
 -- ---- bytes that are known without a fact
 
 -- the byte of the image as it was loaded, but for unset ranges
-abbrev pub loaded_byte : List Segment → List Span → ℤ → Option ℕ
-loaded_byte segments unset (pos a) = if is_in_ranges a unset then None else byte_at (map range_of segments) a
-loaded_byte segments unset (negsuc a) = None
+abbrev pub loaded_byte : List Range → List Span → ℤ → Option ℕ
+loaded_byte ranges unset (pos a) = if is_in_ranges a unset then None else byte_at ranges a
+loaded_byte ranges unset (negsuc a) = None
 
 -- the byte at the start: that of the image, or 0 in a zeroed block
-abbrev pub first_byte : List Segment → List Span → Area → ℤ → Option ℕ
-first_byte segments unset Image o = loaded_byte segments unset o
-first_byte segments unset (In r) o = if is_zeroed r then Some 0 else None
+abbrev pub first_byte : List Range → List Span → Area → ℤ → Option ℕ
+first_byte ranges unset Image o = loaded_byte ranges unset o
+first_byte ranges unset (In r) o = if is_zeroed r then Some 0 else None
 
 -- the byte at the start, where it is not dirty
-abbrev pub known_byte : List Segment → List Span → List Dirty → Area → ℤ → Option ℕ
-known_byte segments unset dirty a o = if is_dirty a o dirty then None else first_byte segments unset a o
+abbrev pub known_byte : List Range → List Span → List Dirty → Area → ℤ → Option ℕ
+known_byte ranges unset dirty a o = if is_dirty a o dirty then None else first_byte ranges unset a o
 
 -- two known numbers as one, the low one counted in units and the high one in units of n
 abbrev pub joined : ℕ → Option ℕ → Option ℕ → Option ℕ
@@ -177,8 +175,8 @@ value_read d None (Some n) = d.number n
 value_read d None None = d.any
 
 -- a load at one known place
-abbrev pub read_of : {D : Type 0} → Values D → List Segment → List Span → Area → ℤ → Width → Held D → D
-read_of d segments unset a low w h = value_read d (found a low w h.facts) (known_number (known_byte segments unset h.dirty a) low w)
+abbrev pub read_of : {D : Type 0} → Values D → List Range → List Span → Area → ℤ → Width → Held D → D
+read_of d ranges unset a low w h = value_read d (found a low w h.facts) (known_number (known_byte ranges unset h.dirty a) low w)
 
 -- a store at one known place
 abbrev pub after_exact : {D : Type 0} → Values D → Area → ℤ → Width → D → Held D → Held D

@@ -1,6 +1,7 @@
-ghost use Rattle.std.specs.Prelude.{◌≡◌, ◌&&◌, IfOk, OnErr, OnOk, false, pos, ◌≤ℤ◌, ◌<ℤ◌, slice_get};
+ghost use Rattle.std.specs.Prelude.{◌≡◌, ◌&&◌, IfOk, OnErr, OnOk, false, map, pos, ◌≤ℤ◌, ◌<ℤ◌, slice_get};
 ghost use Rattle.std.specs.List.{list_all};
 ghost use Rattle.bit_words.specs.Width.{bytes_of};
+ghost use Rattle.memory_map.specs.Map.{range_of};
 ghost use Rattle.address_regions.specs.Extents.{has_one_base};
 ghost use Rattle.domain_laws.specs.Made.{values_of};
 ghost use Rattle.partitioned_memory.specs.Areas.{IsInside, block_in, interval_at, interval_to};
@@ -80,7 +81,7 @@ impl<D: Domain> Parts<D> {
     /// At the start the bytes of the image outside of unset ranges are known, and those of zeroed blocks are 0.
     pub fn read(&self, segments: &Segments, unset: &Ranges, area: Area, low: i64, w: Width) -> D
         requires { IsInside (interval_at area low (pos (bytes_of w))) }
-        ensures { result ≡ read_of (values_of D.Domain.own D.eq) segments.now unset.now area low w self.now }
+        ensures { result ≡ read_of (values_of D.Domain.own D.eq) (map range_of segments.now) unset.now area low w self.now }
     {
         let known = Known {
             segments,

@@ -1,4 +1,4 @@
-use Rattle.std.proofs.Common.{refl, sym, ◌∙◌, rules}
+use Rattle.std.proofs.Common.{rules}
 use Rattle.partitioned_memory.specs.Held.{count_before, one_block}
 use Rattle.partitioned_memory.proofs.ListLaws.{placed-from}
 use Rattle.partitioned_memory.proofs.count_list.count_first.Goals as goal

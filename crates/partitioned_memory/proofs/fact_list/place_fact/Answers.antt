@@ -1,4 +1,4 @@
-use Rattle.std.proofs.Common.{refl, sym, ◌∙◌, rules}
+use Rattle.std.proofs.Common.{refl, rules}
 use Rattle.partitioned_memory.specs.Held.{fact_before}
 use Rattle.partitioned_memory.proofs.ListLaws.{placed-from}
 use Rattle.partitioned_memory.proofs.fact_list.place_fact.Goals as goal

@@ -1,4 +1,4 @@
-use Rattle.std.proofs.Common.{arith, ap, sym, rules}
+use Rattle.std.proofs.Common.{arith, ap}
 use Rattle.std.proofs.lemmas.Int.{ints}
 use Rattle.partitioned_memory.proofs.area.Area.contains.Goals as goal
 

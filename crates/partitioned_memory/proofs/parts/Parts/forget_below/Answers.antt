@@ -1,5 +1,5 @@
 use Rattle.std.specs.Prelude.{not}
-use Rattle.std.proofs.Common.{rules, List, subst, sym, filter, ◌≡◌}
+use Rattle.std.proofs.Common.{rules}
 use Rattle.partitioned_memory.specs.Held.{is_stack_below}
 use Rattle.partitioned_memory.proofs.Kept.{filtered-kept}
 use Rattle.partitioned_memory.proofs.parts.Parts.forget_below.Goals as goal

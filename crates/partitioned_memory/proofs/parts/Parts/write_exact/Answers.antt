@@ -1,5 +1,5 @@
 use Rattle.std.proofs.Common.{rules}
-use Rattle.partitioned_memory.proofs.Kept.{bounded-of, exact-kept, MayStand}
+use Rattle.partitioned_memory.proofs.Kept.{bounded-of, exact-kept}
 use Rattle.partitioned_memory.proofs.parts.Parts.write_exact.Goals as goal
 
 pub dirty_after-requires-clause-ranges : goal.dirty_after-requires-clause-ranges
