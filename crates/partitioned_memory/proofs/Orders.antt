@@ -94,7 +94,7 @@ inside-passed a low high i p q e h k =
     subst IsInside (sym same) (h (not_below low high p q e))
 
 -- the first is of an earlier area, or of the same one and lies so
-pub Lies : (ℤ → ℤ → Type 0) → Interval → Interval → Type 0
+unfoldable pub Lies : (ℤ → ℤ → Type 0) → Interval → Interval → Type 0
 Lies R i j = (area_cmp i.area j.area ≡ Less) ⊎ ((i.area ≡ j.area) × R i.end j.low)
 
 pub before-lies : (i j : Interval) → is_before i j ≡ true → Lies (◌≤ℤ◌) i j

@@ -9,8 +9,10 @@ mod dirty_list;
 mod fact;
 mod fact_list;
 mod known;
+mod laws;
 mod parts;
 
 pub use area::Area;
 pub use fact::{Counted, Dirty, Fact, Spot};
+pub use laws::calls_are_right;
 pub use parts::Parts;
