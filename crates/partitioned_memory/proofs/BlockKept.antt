@@ -1,9 +1,8 @@
 -- A further block, against a description.
-use Rattle.std.proofs.Common.{◌≡◌, ℕ, ◌+◌, ◌*◌, Bool, true, false, cond, List, [], ◌∷◌, map, filter, Option, Some, None, refl, sym, ap, ◌∙◌, subst, arith, ℤ, pos, negsuc, ◌+ℤ◌, inl, inr}
+use Rattle.std.proofs.Common.{◌≡◌, ℕ, Bool, true, false, cond, List, [], ◌∷◌, map, Option, Some, None, refl, sym, ap, ◌∙◌, subst, ℤ, inl, inr}
 use Rattle.std.specs.Prelude.{◌||◌, ◌&&◌, ◌⊎◌, not}
 use Rattle.std.specs.List.{list_any}
-use Rattle.std.proofs.lemmas.Bool.{false≢true, and_parts, and_from, or_cases, or_left, or_right, or_parts, not-true, cases_eq, cases_Bool}
-use Rattle.bit_words.specs.declared.width.Width.{Width}
+use Rattle.std.proofs.lemmas.Bool.{false≢true, and_parts, or_cases, or_left, or_right, not-true, cases_eq, cases_Bool}
 use Rattle.memory_map.specs.declared.span.Span.{Span}
 use Rattle.memory_map.specs.Range.{Range}
 use Rattle.address_regions.specs.declared.region.Region.{Region}
@@ -18,14 +17,14 @@ use Rattle.partitioned_memory.specs.declared.area.Area.{Area}
 use Rattle.partitioned_memory.specs.declared.area.Area.TheVariants.{Image, In}
 use Rattle.partitioned_memory.specs.declared.fact.Fact.{Fact}
 use Rattle.partitioned_memory.specs.declared.fact.Counted.{Counted}
-use Rattle.partitioned_memory.specs.Areas.{block_in, has_byte, is_zeroed, same_area}
+use Rattle.partitioned_memory.specs.Areas.{block_in, has_byte, same_area}
 use Rattle.partitioned_memory.specs.Lists.{Every, placed}
 use Rattle.partitioned_memory.specs.Held.{Held, after_block, count_before, counted_again, counted_more, facts_beside, facts_outside, interval_of_fact, is_counted, known_byte, one_block}
 use Rattle.partitioned_memory.specs.Well.{HasCount, IsWell, IsWellFact}
 use Rattle.partitioned_memory.specs.Describes.{AreBytes, GainsBlock, IsApart, IsDescribed, IsFresh, IsTrueOf, StartsAt, counts_one, is_byte_of, number_in}
 use Rattle.partitioned_memory.proofs.ListLaws.{Every-both, Every-filter, Every-kept, Every-weaker}
 use Rattle.partitioned_memory.proofs.Orders.{same_area-is, same_area-refl}
-use Rattle.partitioned_memory.proofs.Bytes.{IsKnown, IsWrite, byte-from, byte-is, byte-kept, first-zero, known-is, number-kept}
+use Rattle.partitioned_memory.proofs.Bytes.{IsWrite, byte-from, byte-kept, first-zero, known-is, number-kept}
 
 -- ---- regions that are told apart
 
@@ -97,9 +96,9 @@ any-beside t before y [] f e = absurd (false≢true (sym (ap (λ b. b || false) 
 any-beside t before y (x ∷ xs) f e =
     elim (before x y) as (λ b. list_any t (cond b (x ∷ placed before y xs) (y ∷ x ∷ xs)) ≡ true → list_any t (x ∷ xs) ≡ true) [
       | true ↦ λ k. elim (or_cases (t x) (list_any t (placed before y xs)) k) [
-          | inl q ↦ or_left (t x) (list_any t xs) q
-          | inr q ↦ or_right (t x) (list_any t xs) (any-beside t before y xs f q)
-        ]
+        | inl q ↦ or_left (t x) (list_any t xs) q
+        | inr q ↦ or_right (t x) (list_any t xs) (any-beside t before y xs f q)
+      ]
       | false ↦ λ k. sym (ap (λ b. b || list_any t (x ∷ xs)) f) ∙ k
     ] e
 
@@ -130,12 +129,12 @@ record IsApartFrom {D : Type 0} (d : Values D) (blocks : List Counted) (r : Regi
 fact-moved : {D : Type 0} (d : Values D) (laws : IsLawful d) (blocks : List Counted) (ranges : List Range) (p q : Places) (r : Region) (base : ℕ) (b c : ℕ → ℕ) (f : Fact D) → IsValid p → IsValid q → GainsBlock r (is_counted r blocks) base p q → IsWrite ranges q (In r) base (is_in_extent r) b c → IsApartFrom d blocks r ranges p b f → IsTrueOf d q c f
 fact-moved d laws blocks ranges p q r base b c f valid new g w h =
     λ other s.
-        let same = number-kept b c other f.low f.w (λ o low high.
-            let own : has_byte (interval_of_fact f) f.area o ≡ true = byte-from (interval_of_fact f) f.area o (record { area = refl; low = low; high = high }) in
-            byte-kept ranges q (In r) base (is_in_extent r) b c w f.area other o s (h.bytes.each o own) (λ k _ _. h.other k)) in
-        let before = h.true_of other (starts-back r (is_counted r blocks) base p q f.area other g h.other s) in
-        let now = subst (λ (n : ℕ). d.stands f.value p n) (sym same) before in
-        laws.moves f.value p q (number_in c other f.low f.w) valid new g.windows (keeps-bases r base p q blocks (named (d.reach f.value)) g h.counted) now
+    let same = number-kept b c other f.low f.w (λ o low high.
+    let own : has_byte (interval_of_fact f) f.area o ≡ true = byte-from (interval_of_fact f) f.area o (record { area = refl; low = low; high = high }) in
+    byte-kept ranges q (In r) base (is_in_extent r) b c w f.area other o s (h.bytes.each o own) (λ k _ _. h.other k)) in
+    let before = h.true_of other (starts-back r (is_counted r blocks) base p q f.area other g h.other s) in
+    let now = subst (λ (n : ℕ). d.stands f.value p n) (sym same) before in
+    laws.moves f.value p q (number_in c other f.low f.w) valid new g.windows (keeps-bases r base p q blocks (named (d.reach f.value)) g h.counted) now
 
 -- the facts that are left are of other areas
 facts-apart : {D : Type 0} (d : Values D) (ranges : List Range) (p : Places) (b : ℕ → ℕ) (r : Region) (blocks : List Counted) (facts : List (Fact D)) → has_one_base r ≡ false → Every (IsWellFact d blocks) facts → Every (IsTrueOf d p b) facts → Every (λ f. AreBytes ranges (interval_of_fact f)) facts → Every (IsApartFrom d blocks r ranges p b) (facts_beside r blocks facts)
@@ -146,25 +145,25 @@ facts-apart {D} d ranges p b r blocks facts block well truth bytes =
     elim (is_counted r blocks) as (λ t. is_counted r blocks ≡ t → Every (IsApartFrom d blocks r ranges p b) (cond t (facts_outside r facts) facts)) [
       | true ↦ λ e.
           Every-both (λ f. not (same_area f.area (In r)) ≡ true) Known (IsApartFrom d blocks r ranges p b) (facts_outside r facts)
-              (λ f k l. record {
-                other = λ s. false≢true (sym (not-true (same_area f.area (In r)) k) ∙ ap (λ z. same_area z (In r)) s ∙ same_area-refl (In r));
-                counted = l.0.holds.counted;
-                true_of = l.1;
-                bytes = l.2;
-              })
-              (Every-kept (λ f. not (same_area f.area (In r))) facts)
-              (Every-filter Known (λ f. not (same_area f.area (In r))) facts all)
+          (λ f k l. record {
+            other = λ s. false≢true (sym (not-true (same_area f.area (In r)) k) ∙ ap (λ z. same_area z (In r)) s ∙ same_area-refl (In r));
+            counted = l.0.holds.counted;
+            true_of = l.1;
+            bytes = l.2;
+          })
+          (Every-kept (λ f. not (same_area f.area (In r))) facts)
+          (Every-filter Known (λ f. not (same_area f.area (In r))) facts all)
       | false ↦ λ e.
           Every-weaker Known (IsApartFrom d blocks r ranges p b) facts
-              (λ f l. record {
-                other = λ s.
-                    let counted : HasCount blocks (Some r) = subst (HasCount blocks) (ap block_in s ∙ block-named r block) l.0.counted in
-                    false≢true (sym e ∙ counted);
-                counted = l.0.holds.counted;
-                true_of = l.1;
-                bytes = l.2;
-              })
-              all
+          (λ f l. record {
+            other = λ s.
+                let counted : HasCount blocks (Some r) = subst (HasCount blocks) (ap block_in s ∙ block-named r block) l.0.counted in
+                false≢true (sym e ∙ counted);
+            counted = l.0.holds.counted;
+            true_of = l.1;
+            bytes = l.2;
+          })
+          all
     ] refl
 
 -- ---- the call

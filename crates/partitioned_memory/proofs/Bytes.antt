@@ -1,8 +1,6 @@
 -- Bytes of intervals and areas, and what a write leaves.
-use Rattle.std.proofs.Common.{◌≡◌, ℕ, ◌+◌, ◌*◌, Bool, true, false, cond, List, [], ◌∷◌, filter, Option, Some, None, refl, sym, ap, ◌∙◌, subst, arith, ℤ, pos, negsuc, ◌+ℤ◌, ◌-ℤ◌, ◌≤ℤ◌, ◌<ℤ◌, inl, inr}
-use Rattle.std.specs.Prelude.{◌||◌, ◌&&◌, ◌⊎◌, not, int_le, int_lt}
-use Rattle.std.specs.List.{list_any, list_all}
-use Rattle.std.specs.Int.{int_max, int_min}
+use Rattle.std.proofs.Common.{◌≡◌, ℕ, ◌+◌, ◌*◌, Bool, true, false, cond, List, [], ◌∷◌, Some, None, refl, sym, ap, ◌∙◌, subst, arith, ℤ, pos, ◌+ℤ◌, ◌≤ℤ◌, ◌<ℤ◌, inl, inr}
+use Rattle.std.specs.Prelude.{◌||◌, ◌&&◌, int_le, int_lt}
 use Rattle.std.proofs.lemmas.Bool.{false≢true, and_parts, and_from, or_cases, or_left, or_right, or_parts, false_from_ne_true}
 use Rattle.std.proofs.lemmas.Int.{ints, int_max_is, int_min_is}
 use Rattle.std.specs.declared.cmp.Ordering.TheVariants.{Less, Equal}
@@ -17,11 +15,10 @@ use Rattle.partitioned_memory.specs.declared.area.Area.{Area}
 use Rattle.partitioned_memory.specs.declared.area.Area.TheVariants.{Image, In}
 use Rattle.partitioned_memory.specs.declared.area.Interval.{Interval}
 use Rattle.partitioned_memory.specs.declared.fact.Dirty.{Dirty}
-use Rattle.partitioned_memory.specs.Areas.{area_cmp, has_byte, hull, interval_at, is_before, is_left, is_marked, is_off, is_zeroed, same_area}
-use Rattle.partitioned_memory.specs.Lists.{Every}
+use Rattle.partitioned_memory.specs.Areas.{area_cmp, has_byte, hull, is_before, is_left, is_marked, is_off, is_zeroed, same_area}
 use Rattle.partitioned_memory.specs.Held.{dirty_after, dirty_of, dirty_with, first_byte, interval_of_dirty, is_dirty, known_byte}
-use Rattle.partitioned_memory.specs.Describes.{AreBytes, IsApart, IsWritten, StartsAt, bytes_in, half_in, is_byte_of, number_in}
-use Rattle.partitioned_memory.proofs.Orders.{Lies, Touches, area_cmp-refl, before-lies, int_le-from, int_le-true, int_lt-from, int_lt-true, same_area-is, same_area-refl, touching}
+use Rattle.partitioned_memory.specs.Describes.{IsApart, IsWritten, StartsAt, half_in, is_byte_of, number_in}
+use Rattle.partitioned_memory.proofs.Orders.{Lies, area_cmp-refl, before-lies, int_le-from, int_le-true, int_lt-from, int_lt-true, same_area-is, same_area-refl, touching}
 use Rattle.partitioned_memory.proofs.Kept.{dirty_of-interval}
 
 -- ---- bytes of intervals
@@ -80,9 +77,9 @@ dirty_with-new i (r ∷ rs) a o e =
           elim (or_cases (has_byte i a o) (own || is_dirty a o rs) e) [
             | inl x ↦ or_right own (is_dirty a o (dirty_with i rs)) (dirty_with-new i rs a o (or_left (has_byte i a o) (is_dirty a o rs) x))
             | inr x ↦ elim (or_cases own (is_dirty a o rs) x) [
-                | inl y ↦ or_left own (is_dirty a o (dirty_with i rs)) y
-                | inr y ↦ or_right own (is_dirty a o (dirty_with i rs)) (dirty_with-new i rs a o (or_right (has_byte i a o) (is_dirty a o rs) y))
-              ]
+              | inl y ↦ or_left own (is_dirty a o (dirty_with i rs)) y
+              | inr y ↦ or_right own (is_dirty a o (dirty_with i rs)) (dirty_with-new i rs a o (or_right (has_byte i a o) (is_dirty a o rs) y))
+            ]
           ]
       | false ↦ λ k.
           elim (is_left i (interval_of_dirty r)) as (λ b. is_left i (interval_of_dirty r) ≡ b → is_dirty a o (cond b (dirty_of i ∷ r ∷ rs) (dirty_with (hull i (interval_of_dirty r)) rs)) ≡ true) [
@@ -91,13 +88,13 @@ dirty_with-new i (r ∷ rs) a o e =
                 let h = hull i (interval_of_dirty r) in
                 let t = touching (interval_of_dirty r) i k q in
                 dirty_with-new h rs a o
-                    (elim (or_cases (has_byte i a o) (own || is_dirty a o rs) e) [
-                      | inl x ↦ or_left (has_byte h a o) (is_dirty a o rs) (hull-left i (interval_of_dirty r) a o x)
-                      | inr x ↦ elim (or_cases own (is_dirty a o rs) x) [
-                          | inl y ↦ or_left (has_byte h a o) (is_dirty a o rs) (hull-right i (interval_of_dirty r) a o (sym t.area) y)
-                          | inr y ↦ or_right (has_byte h a o) (is_dirty a o rs) y
-                        ]
-                    ])
+                (elim (or_cases (has_byte i a o) (own || is_dirty a o rs) e) [
+                  | inl x ↦ or_left (has_byte h a o) (is_dirty a o rs) (hull-left i (interval_of_dirty r) a o x)
+                  | inr x ↦ elim (or_cases own (is_dirty a o rs) x) [
+                    | inl y ↦ or_left (has_byte h a o) (is_dirty a o rs) (hull-right i (interval_of_dirty r) a o (sym t.area) y)
+                    | inr y ↦ or_right (has_byte h a o) (is_dirty a o rs) y
+                  ]
+                ])
           ] refl
     ] refl
 
@@ -111,7 +108,7 @@ clean-after i rs a o e =
     elim (is_marked i.area) as (λ b. is_marked i.area ≡ b → is_dirty a o (cond b (dirty_with i rs) rs) ≡ false → IsCleanAfter i rs a o) [
       | true ↦ λ k f.
           let none : (has_byte i a o || is_dirty a o rs) ≡ false =
-              false_from_ne_true (has_byte i a o || is_dirty a o rs) (λ t. false≢true (sym f ∙ dirty_with-new i rs a o t)) in
+          false_from_ne_true (has_byte i a o || is_dirty a o rs) (λ t. false≢true (sym f ∙ dirty_with-new i rs a o t)) in
           let parts = or_parts (has_byte i a o) (is_dirty a o rs) none in
           record { before = parts.1; unwritten = λ _. parts.0 }
       | false ↦ λ k f. record { before = f; unwritten = λ m. absurd (false≢true (sym k ∙ m)) }
@@ -156,8 +153,8 @@ pub record IsWrite (ranges : List Range) (p : Places) (a : Area) (base : ℕ) (t
 pub byte-kept : (ranges : List Range) (p : Places) (a : Area) (base : ℕ) (test : ℤ → Bool) (b c : ℕ → ℕ) → IsWrite ranges p a base test b c → (k : Area) (other : ℕ) (q : ℤ) → StartsAt p k other → is_byte_of ranges k q ≡ true → (k ≡ a → other ≡ base → test q ≡ true → ⊥) → c (place_at other q) ≡ b (place_at other q)
 byte-kept ranges p a base test b c w k other q s e differs =
     w.written (place_at other q) (λ o t same.
-        let one = w.apart.one k a q o other base s w.starts e (w.bytes o t) same in
-        differs one.0 one.1 (subst (λ (z : ℤ). test z ≡ true) (sym one.2) t))
+    let one = w.apart.one k a q o other base s w.starts e (w.bytes o t) same in
+    differs one.0 one.1 (subst (λ (z : ℤ). test z ≡ true) (sym one.2) t))
 
 half-kept : (b c : ℕ → ℕ) (base : ℕ) (low : ℤ) → c (place_at base low) ≡ b (place_at base low) → c (place_at base (low +ℤ pos 1)) ≡ b (place_at base (low +ℤ pos 1)) → half_in c base low ≡ half_in b base low
 half-kept b c base low e f = ap (λ n. n + 256 * c (place_at base (low +ℤ pos 1))) e ∙ ap (λ n. b (place_at base low) + 256 * n) f

@@ -1,11 +1,11 @@
 -- Forgetting, reading and covering, against a description.
-use Rattle.std.proofs.Common.{◌≡◌, ℕ, ◌+◌, ◌*◌, Bool, true, false, cond, List, [], ◌∷◌, filter, Option, Some, None, refl, sym, ap, ◌∙◌, subst, arith, ℤ, pos, negsuc, ◌+ℤ◌, ◌-ℤ◌, ◌≤ℤ◌, ◌<ℤ◌, inl, inr}
-use Rattle.std.specs.Prelude.{◌||◌, ◌&&◌, ◌⊎◌, not, int_le, int_lt, ◌==◌, find}
+use Rattle.std.proofs.Common.{◌≡◌, ℕ, ◌+◌, ◌*◌, Bool, true, false, cond, List, [], ◌∷◌, Option, Some, None, refl, sym, ap, ◌∙◌, subst, arith, ℤ, pos, ◌+ℤ◌, ◌≤ℤ◌, ◌<ℤ◌, inl, inr}
+use Rattle.std.specs.Prelude.{◌||◌, ◌&&◌, not, int_le, int_lt, ◌==◌, find}
 use Rattle.std.specs.List.{list_any, list_all}
 use Rattle.std.specs.Option.{option_map}
 use Rattle.std.specs.Ordering.{int_eq}
 use Rattle.std.proofs.lemmas.Grind.{common_steps}
-use Rattle.std.proofs.lemmas.Bool.{false≢true, and_parts, and_from, or_cases, or_left, or_right, or_parts, false_from_ne_true, not-true}
+use Rattle.std.proofs.lemmas.Bool.{false≢true, and_parts, and_from, or_cases, or_left, or_right, false_from_ne_true, not-true}
 use Rattle.std.proofs.lemmas.Int.{ints}
 use Rattle.bit_words.specs.declared.width.Width.{Width}
 use Rattle.bit_words.specs.declared.width.Width.TheVariants.{B8, B16, B32}
@@ -15,13 +15,12 @@ use Rattle.memory_map.specs.Range.{Range}
 use Rattle.address_regions.specs.declared.region.Region.{Region}
 use Rattle.address_regions.specs.declared.region.Region.TheVariants.{Stack}
 use Rattle.address_regions.specs.Extents.{is_in_extent}
-use Rattle.address_regions.specs.Places.{Places, HasBase, IsValid, place_at}
+use Rattle.address_regions.specs.Places.{Places, IsValid, place_at}
 use Rattle.address_regions.specs.Same.{same_region}
 use Rattle.address_regions.proofs.RegionLaws.{same_region-is}
 use Rattle.domain_laws.specs.Laws.{IsLawful, Values}
 use Rattle.partitioned_memory.specs.declared.area.Area.{Area}
-use Rattle.partitioned_memory.specs.declared.area.Area.TheVariants.{Image, In}
-use Rattle.partitioned_memory.specs.declared.area.Interval.{Interval}
+use Rattle.partitioned_memory.specs.declared.area.Area.TheVariants.{In}
 use Rattle.partitioned_memory.specs.declared.fact.Fact.{Fact}
 use Rattle.partitioned_memory.specs.declared.fact.Dirty.{Dirty}
 use Rattle.partitioned_memory.specs.declared.fact.Counted.{Counted}
@@ -30,9 +29,9 @@ use Rattle.partitioned_memory.specs.Lists.{Every}
 use Rattle.partitioned_memory.specs.Held.{Held, after_forgetting, counts_below, covers_count, covers_fact, covers_held, found, interval_of_dirty, interval_of_fact, is_at, is_below, is_dirty, is_stack_below, joined, known_byte, known_half, known_number, lies_in, lies_in_one, read_of, value_read}
 use Rattle.partitioned_memory.specs.Describes.{AreBytes, IsApart, IsDescribed, IsTrueOf, IsWritten, StartsAt, counts_one, half_in, is_byte_of, number_in, stack_bytes_below}
 use Rattle.partitioned_memory.proofs.ListLaws.{Every-both, Every-weaker}
-use Rattle.partitioned_memory.proofs.Orders.{int_le-from, int_le-true, int_lt-false, int_lt-true, same_area-is, same_area-refl}
+use Rattle.partitioned_memory.proofs.Orders.{int_le-true, int_lt-false, int_lt-true, same_area-is, same_area-refl}
 use Rattle.partitioned_memory.proofs.Kept.{same_width}
-use Rattle.partitioned_memory.proofs.Bytes.{IsKnown, IsWrite, byte-from, byte-is, byte-kept, first-marked, known-from, known-is}
+use Rattle.partitioned_memory.proofs.Bytes.{IsWrite, byte-from, byte-is, byte-kept, first-marked, known-from, known-is}
 use Rattle.partitioned_memory.proofs.FactsKept.{AreTrue, facts-kept}
 
 -- ---- forgetting
@@ -46,13 +45,13 @@ forget-keeps {D} d ranges unset p b c h high apart written x =
       written = written;
     } in
     let facts = facts-kept d ranges p (In Stack) p.stack (stack_bytes_below high) b c (λ f. not (is_stack_below high f)) h.facts w
-            (λ (f : Fact D) keep o own same new.
-                let below = (and_parts (is_in_extent Stack o) (int_lt o high) new).1 in
-                let kept = not-true (is_stack_below high f) keep in
-                let stack : same_area f.area (In Stack) ≡ true = ap (λ k. same_area k (In Stack)) same ∙ same_area-refl (In Stack) in
-                let above : int_lt f.low high ≡ false = ap (λ t. t && int_lt f.low high) (sym stack) ∙ kept in
-                omega (arith, ints, int_lt-false f.low high above, int_lt-true o high below, (byte-is (interval_of_fact f) f.area o own).low))
-            (record { true_of = x.facts; within = x.within }) in
+    (λ (f : Fact D) keep o own same new.
+    let below = (and_parts (is_in_extent Stack o) (int_lt o high) new).1 in
+    let kept = not-true (is_stack_below high f) keep in
+    let stack : same_area f.area (In Stack) ≡ true = ap (λ k. same_area k (In Stack)) same ∙ same_area-refl (In Stack) in
+    let above : int_lt f.low high ≡ false = ap (λ t. t && int_lt f.low high) (sym stack) ∙ kept in
+    omega (arith, ints, int_lt-false f.low high above, int_lt-true o high below, (byte-is (interval_of_fact f) f.area o own).low))
+    (record { true_of = x.facts; within = x.within }) in
     record {
       facts = facts.true_of;
       within = facts.within;
@@ -178,15 +177,15 @@ every-any t (x ∷ xs) =
 dirty-lies : (rs qs : List Dirty) (a : Area) (o : ℤ) → list_all (lies_in qs) rs ≡ true → is_dirty a o rs ≡ true → is_dirty a o qs ≡ true
 dirty-lies rs qs a o all e =
     pick (λ r. lies_in qs r ≡ true) (is_dirty a o qs ≡ true) (λ r. has_byte (interval_of_dirty r) a o) rs e (all-every (lies_in qs) rs all) (λ r lies own.
-        pick (λ q. has_byte (interval_of_dirty q) a o ≡ true → is_dirty a o qs ≡ true) (is_dirty a o qs ≡ true) (lies_in_one r) qs lies (every-any (λ q. has_byte (interval_of_dirty q) a o) qs) (λ q found_in in_one.
-            let x = and_parts (same_area q.area r.area) (int_le q.low r.low && int_le (r.low +ℤ r.size) (q.low +ℤ q.size)) in_one in
-            let y = and_parts (int_le q.low r.low) (int_le (r.low +ℤ r.size) (q.low +ℤ q.size)) x.1 in
-            let b = byte-is (interval_of_dirty r) a o own in
-            found_in (byte-from (interval_of_dirty q) a o (record {
-              area = same_area-is q.area r.area x.0 ∙ b.area;
-              low = omega (arith, ints, int_le-true q.low r.low y.0, b.low);
-              high = omega (arith, ints, int_le-true (r.low +ℤ r.size) (q.low +ℤ q.size) y.1, b.high);
-            }))))
+    pick (λ q. has_byte (interval_of_dirty q) a o ≡ true → is_dirty a o qs ≡ true) (is_dirty a o qs ≡ true) (lies_in_one r) qs lies (every-any (λ q. has_byte (interval_of_dirty q) a o) qs) (λ q found_in in_one.
+    let x = and_parts (same_area q.area r.area) (int_le q.low r.low && int_le (r.low +ℤ r.size) (q.low +ℤ q.size)) in_one in
+    let y = and_parts (int_le q.low r.low) (int_le (r.low +ℤ r.size) (q.low +ℤ q.size)) x.1 in
+    let b = byte-is (interval_of_dirty r) a o own in
+    found_in (byte-from (interval_of_dirty q) a o (record {
+      area = same_area-is q.area r.area x.0 ∙ b.area;
+      low = omega (arith, ints, int_le-true q.low r.low y.0, b.low);
+      high = omega (arith, ints, int_le-true (r.low +ℤ r.size) (q.low +ℤ q.size) y.1, b.high);
+    }))))
 
 one-below : (r : Region) (c e : Counted) → (same_region c.region r && not c.many) ≡ true → counts_below c e ≡ true → (same_region e.region r && not e.many) ≡ true
 one-below r c e x y =
@@ -200,13 +199,13 @@ covers-fact : {D : Type 0} (d : Values D) (laws : IsLawful d) (ranges : List Ran
 covers-fact d laws ranges p b valid facts f h e =
     let both = Every-both (IsTrueOf d p b) (λ g. AreBytes ranges (interval_of_fact g)) (λ g. IsTrueOf d p b g × AreBytes ranges (interval_of_fact g)) facts (λ g k l. (k, l)) h.true_of h.within in
     pick (λ g. IsTrueOf d p b g × AreBytes ranges (interval_of_fact g)) (IsTrueOf d p b f × AreBytes ranges (interval_of_fact f)) (is_below d f) facts e both (λ g k t.
-        let parts = and_parts (is_at f.area f.low f.w g) (d.leq g.value f.value) t in
-        let spot = spot-is f.area f.low f.w g parts.0 in
-        let same : interval_of_fact g ≡ interval_of_fact f =
-            ap (λ z. interval_at z g.low (pos (bytes_of g.w))) spot.area ∙ ap (λ z. interval_at f.area z (pos (bytes_of g.w))) spot.low_is ∙ ap (λ z. interval_at f.area f.low (pos (bytes_of z))) spot.width in (
-          λ base s. laws.leq_stands g.value f.value p (number_in b base f.low f.w) valid parts.1 (stands-at d p b f.area base f.low f.w g spot s k.0),
-          subst (AreBytes ranges) same k.1,
-        ))
+    let parts = and_parts (is_at f.area f.low f.w g) (d.leq g.value f.value) t in
+    let spot = spot-is f.area f.low f.w g parts.0 in
+    let same : interval_of_fact g ≡ interval_of_fact f =
+    ap (λ z. interval_at z g.low (pos (bytes_of g.w))) spot.area ∙ ap (λ z. interval_at f.area z (pos (bytes_of g.w))) spot.low_is ∙ ap (λ z. interval_at f.area f.low (pos (bytes_of z))) spot.width in (
+      λ base s. laws.leq_stands g.value f.value p (number_in b base f.low f.w) valid parts.1 (stands-at d p b f.area base f.low f.w g spot s k.0),
+      subst (AreBytes ranges) same k.1,
+    ))
 
 pub covers-describes : {D : Type 0} (d : Values D) (laws : IsLawful d) (ranges : List Range) (unset : List Span) (p : Places) (b : ℕ → ℕ) (t s : Held D) → IsValid p → covers_held d t s ≡ true → IsDescribed d ranges unset p s b → IsDescribed d ranges unset p t b
 covers-describes d laws ranges unset p b t s valid e x =
@@ -223,7 +222,7 @@ covers-describes d laws ranges unset p b t s valid e x =
           x.clean a base o n start byte (known-from ranges unset s.dirty a o n (record { clean = clean; first = k.first }));
       single = λ r base other one h k.
           x.single r base other
-              (pick (λ c. covers_count s.blocks c ≡ true) (counts_one r s.blocks ≡ true) (λ c. same_region c.region r && not c.many) t.blocks one (all-every (covers_count s.blocks) t.blocks second.1) (λ c below_c own.
-                  pick (λ q. (same_region q.region r && not q.many) ≡ true → counts_one r s.blocks ≡ true) (counts_one r s.blocks ≡ true) (counts_below c) s.blocks below_c (every-any (λ q. same_region q.region r && not q.many) s.blocks) (λ q f g. f (one-below r c q own g))))
-              h k;
+          (pick (λ c. covers_count s.blocks c ≡ true) (counts_one r s.blocks ≡ true) (λ c. same_region c.region r && not c.many) t.blocks one (all-every (covers_count s.blocks) t.blocks second.1) (λ c below_c own.
+          pick (λ q. (same_region q.region r && not q.many) ≡ true → counts_one r s.blocks ≡ true) (counts_one r s.blocks ≡ true) (counts_below c) s.blocks below_c (every-any (λ q. same_region q.region r && not q.many) s.blocks) (λ q f g. f (one-below r c q own g))))
+          h k;
     }

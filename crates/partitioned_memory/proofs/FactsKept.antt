@@ -1,8 +1,8 @@
 -- What a write leaves of the facts and of the other parts of a description.
-use Rattle.std.proofs.Common.{◌≡◌, ℕ, ◌+◌, ◌*◌, Bool, true, false, cond, List, [], ◌∷◌, filter, Option, Some, None, refl, sym, ap, ◌∙◌, subst, arith, ℤ, pos, negsuc, ◌+ℤ◌, ◌-ℤ◌, ◌≤ℤ◌, ◌<ℤ◌, inl, inr}
-use Rattle.std.specs.Prelude.{◌||◌, ◌&&◌, ◌⊎◌, not, int_le, int_lt, ◌==◌}
-use Rattle.std.specs.List.{list_any, list_all}
-use Rattle.std.proofs.lemmas.Bool.{false≢true, and_parts, and_from, or_cases, or_left, or_right, or_parts, false_from_ne_true}
+use Rattle.std.proofs.Common.{◌≡◌, ℕ, Bool, true, false, cond, List, [], ◌∷◌, filter, Some, refl, sym, ap, ◌∙◌, subst, arith, ℤ, pos, inl, inr}
+use Rattle.std.specs.Prelude.{◌||◌, ◌&&◌, not, int_lt, ◌==◌}
+use Rattle.std.specs.List.{list_any}
+use Rattle.std.proofs.lemmas.Bool.{false≢true, or_cases, or_left, or_right, or_parts}
 use Rattle.std.proofs.lemmas.Int.{ints}
 use Rattle.bit_words.specs.declared.width.Width.{Width}
 use Rattle.bit_words.specs.Width.{bytes_of}
@@ -10,24 +10,22 @@ use Rattle.memory_map.specs.declared.span.Span.{Span}
 use Rattle.memory_map.specs.Range.{Range}
 use Rattle.address_regions.specs.declared.region.Region.{Region}
 use Rattle.address_regions.specs.declared.region.Region.TheVariants.{Stack, Fs, Gs, Block}
-use Rattle.address_regions.specs.Extents.{block_of}
-use Rattle.address_regions.specs.Places.{Places, HasBase, place_at}
+use Rattle.address_regions.specs.Places.{Places, place_at}
 use Rattle.address_regions.specs.Same.{same_region}
 use Rattle.domain_laws.specs.Laws.{Values}
 use Rattle.partitioned_memory.specs.declared.area.Area.{Area}
 use Rattle.partitioned_memory.specs.declared.area.Area.TheVariants.{Image, In}
 use Rattle.partitioned_memory.specs.declared.area.Interval.{Interval}
 use Rattle.partitioned_memory.specs.declared.fact.Fact.{Fact}
-use Rattle.partitioned_memory.specs.declared.fact.Dirty.{Dirty}
 use Rattle.partitioned_memory.specs.declared.fact.Counted.{Counted}
-use Rattle.partitioned_memory.specs.Areas.{block_in, has_byte, interval_at, interval_to, is_marked, is_off, same_area}
+use Rattle.partitioned_memory.specs.Areas.{block_in, has_byte, interval_at, interval_to, is_marked, is_off}
 use Rattle.partitioned_memory.specs.Lists.{Every, placed}
-use Rattle.partitioned_memory.specs.Held.{Held, after_exact, after_forgetting, after_inside, after_interval, dirty_after, fact_before, facts_off, facts_with, interval_of_fact, is_counted, is_many, is_stack_below, known_byte}
+use Rattle.partitioned_memory.specs.Held.{Held, after_exact, after_inside, after_interval, dirty_after, fact_before, facts_off, facts_with, interval_of_fact, is_counted, is_many, known_byte}
 use Rattle.partitioned_memory.specs.Well.{HasCount}
-use Rattle.partitioned_memory.specs.Describes.{AreBytes, IsApart, IsDescribed, IsTrueOf, IsWritten, StartsAt, bytes_in, counts_one, is_byte_of, number_in, stack_bytes_below}
+use Rattle.partitioned_memory.specs.Describes.{AreBytes, IsApart, IsDescribed, IsTrueOf, IsWritten, StartsAt, bytes_in, counts_one, is_byte_of, number_in}
 use Rattle.partitioned_memory.proofs.ListLaws.{Every-both, Every-filter, Every-kept, Every-placed, Every-weaker}
-use Rattle.partitioned_memory.proofs.Orders.{int_lt-false, int_lt-true, same_area-is, same_area-refl}
-use Rattle.partitioned_memory.proofs.Bytes.{IsByte, IsKnown, IsWrite, byte-from, byte-is, byte-kept, clean-after, first-marked, known-from, known-is, number-kept, off-no_byte}
+use Rattle.partitioned_memory.proofs.Orders.{int_lt-true}
+use Rattle.partitioned_memory.proofs.Bytes.{IsWrite, byte-from, byte-is, byte-kept, clean-after, first-marked, known-from, known-is, number-kept, off-no_byte}
 
 -- ---- facts
 
@@ -35,10 +33,10 @@ use Rattle.partitioned_memory.proofs.Bytes.{IsByte, IsKnown, IsWrite, byte-from,
 pub fact-kept : {D : Type 0} (d : Values D) (ranges : List Range) (p : Places) (a : Area) (base : ℕ) (test : ℤ → Bool) (b c : ℕ → ℕ) (f : Fact D) → IsWrite ranges p a base test b c → AreBytes ranges (interval_of_fact f) → ((o : ℤ) → has_byte (interval_of_fact f) f.area o ≡ true → f.area ≡ a → test o ≡ true → ⊥) → IsTrueOf d p b f → IsTrueOf d p c f
 fact-kept d ranges p a base test b c f w bytes differs true_of =
     λ other s.
-        let same = number-kept b c other f.low f.w (λ o low high.
-            let own : has_byte (interval_of_fact f) f.area o ≡ true = byte-from (interval_of_fact f) f.area o (record { area = refl; low = low; high = high }) in
-            byte-kept ranges p a base test b c w f.area other o s (bytes.each o own) (λ same _. differs o own same)) in
-        subst (λ (n : ℕ). d.stands f.value p n) (sym same) (true_of other s)
+    let same = number-kept b c other f.low f.w (λ o low high.
+    let own : has_byte (interval_of_fact f) f.area o ≡ true = byte-from (interval_of_fact f) f.area o (record { area = refl; low = low; high = high }) in
+    byte-kept ranges p a base test b c w f.area other o s (bytes.each o own) (λ same _. differs o own same)) in
+    subst (λ (n : ℕ). d.stands f.value p n) (sym same) (true_of other s)
 
 -- facts that a description has
 pub record AreTrue {D : Type 0} (d : Values D) (ranges : List Range) (p : Places) (b : ℕ → ℕ) (facts : List (Fact D)) : Type 0 where
@@ -59,8 +57,8 @@ facts-kept d ranges p a base test b c keep facts w differs h =
 pub off-kept : {D : Type 0} (d : Values D) (ranges : List Range) (p : Places) (i : Interval) (base : ℕ) (b c : ℕ → ℕ) (facts : List (Fact D)) → IsWrite ranges p i.area base (bytes_in i) b c → AreTrue d ranges p b facts → AreTrue d ranges p c (facts_off i facts)
 off-kept d ranges p i base b c facts w h =
     facts-kept d ranges p i.area base (bytes_in i) b c (λ f. is_off (interval_of_fact f) i) facts w
-        (λ f off o own s new. off-no_byte (interval_of_fact f) i i.area o off (subst (λ (k : Area). has_byte (interval_of_fact f) k o ≡ true) s own) new)
-        h
+    (λ f off o own s new. off-no_byte (interval_of_fact f) i i.area o off (subst (λ (k : Area). has_byte (interval_of_fact f) k o ≡ true) s own) new)
+    h
 
 -- ---- the base of an area whose region does not count many
 
@@ -98,9 +96,9 @@ clean-kept d ranges unset p h i base b c w x a other o n s e known =
     let before = x.clean a other o n s e (known-from ranges unset h.dirty a o n (record { clean = after.before; first = k.first })) in
     let marked = first-marked ranges unset a o n k.first in
     byte-kept ranges p i.area base (bytes_in i) b c w a other o s e (λ same _ new.
-        let m : is_marked i.area ≡ true = ap is_marked (sym same) ∙ marked in
-        let own : has_byte i a o ≡ true = ap (λ z. has_byte i z o) same ∙ new in
-        false≢true (sym (after.unwritten m) ∙ own))
+    let m : is_marked i.area ≡ true = ap is_marked (sym same) ∙ marked in
+    let own : has_byte i a o ≡ true = ap (λ z. has_byte i z o) same ∙ new in
+    false≢true (sym (after.unwritten m) ∙ own))
     ∙ before
 
 -- ---- the calls
@@ -124,8 +122,8 @@ inside-keeps {D} d ranges unset p b c h a base low high apart start bytes writte
     elim (int_lt high low) as (λ t. int_lt high low ≡ t → (let k : Held D = cond t h (after_interval (interval_to a low high) h) in IsDescribed d ranges unset p k c)) [
       | true ↦ λ e.
           same-memory d ranges unset p h b c (λ n. written n (λ o in_it same.
-              let y = byte-is (interval_to a low high) a o in_it in
-              omega (arith, ints, int_lt-true high low e, y.low, y.high))) x
+          let y = byte-is (interval_to a low high) a o in_it in
+          omega (arith, ints, int_lt-true high low e, y.low, y.high))) x
       | false ↦ λ e. interval-keeps d ranges unset p h (interval_to a low high) base b c (record { apart = apart; starts = start; bytes = bytes.each; written = written }) x
     ] refl
 
@@ -136,14 +134,14 @@ exact-keeps {D} d ranges unset p b c h a base low w v apart start bytes counted 
     let f : Fact D = record { area = a; low = low; w = w; value = v } in
     let others = off-kept d ranges p i base b c h.facts write (record { true_of = x.facts; within = x.within }) in
     let facts : AreTrue d ranges p c (facts_with d h.blocks f (facts_off i h.facts)) =
-        elim (d.rank v == 0 || is_many a h.blocks) as (λ t. (d.rank v == 0 || is_many a h.blocks) ≡ t → AreTrue d ranges p c (cond t (facts_off i h.facts) (placed fact_before f (facts_off i h.facts)))) [
-          | true ↦ λ e. others
-          | false ↦ λ e.
-              let parts = or_parts (d.rank v == 0) (is_many a h.blocks) e in
-              let new : IsTrueOf d p c f = λ other s. subst (λ (z : ℕ). d.stands v p (number_in c z low w)) (sym (one-base d ranges unset p h b a base other x counted parts.1 write.starts s)) stands in
-              record {
-                true_of = Every-placed (IsTrueOf d p c) fact_before f (facts_off i h.facts) new others.true_of;
-                within = Every-placed (λ g. AreBytes ranges (interval_of_fact g)) fact_before f (facts_off i h.facts) bytes others.within;
-              }
-        ] refl in
+    elim (d.rank v == 0 || is_many a h.blocks) as (λ t. (d.rank v == 0 || is_many a h.blocks) ≡ t → AreTrue d ranges p c (cond t (facts_off i h.facts) (placed fact_before f (facts_off i h.facts)))) [
+      | true ↦ λ e. others
+      | false ↦ λ e.
+          let parts = or_parts (d.rank v == 0) (is_many a h.blocks) e in
+          let new : IsTrueOf d p c f = λ other s. subst (λ (z : ℕ). d.stands v p (number_in c z low w)) (sym (one-base d ranges unset p h b a base other x counted parts.1 write.starts s)) stands in
+          record {
+            true_of = Every-placed (IsTrueOf d p c) fact_before f (facts_off i h.facts) new others.true_of;
+            within = Every-placed (λ g. AreBytes ranges (interval_of_fact g)) fact_before f (facts_off i h.facts) bytes others.within;
+          }
+    ] refl in
     record { facts = facts.true_of; within = facts.within; clean = clean-kept d ranges unset p h i base b c write x; single = x.single }

@@ -5,3 +5,4 @@ pub mod Bytes
 pub mod FactsKept
 pub mod CallsKept
 pub mod BlockKept
+pub mod Spread

@@ -1,14 +1,14 @@
 -- When the parts are right about the bytes of memory, by the places of a run.
 -- Memory is a function from addresses to bytes; where nothing is mapped it may be anything.
-use Rattle.std.specs.Prelude.{◌≡◌, ℕ, ◌+◌, ◌*◌, Bool, true, false, not, ◌&&◌, List, Option, Some, ℤ, pos, negsuc, ◌+ℤ◌, is_some, int_lt, ◌⊎◌, ◌↔◌}
+use Rattle.std.specs.Prelude.{◌≡◌, ℕ, ◌+◌, ◌*◌, Bool, true, false, not, ◌&&◌, List, Some, ℤ, pos, negsuc, ◌+ℤ◌, is_some, int_lt, ◌≤ℤ◌, All, ◌⊎◌, ◌↔◌}
 use Rattle.std.specs.List.{list_any}
 use Rattle.bit_words.specs.declared.width.Width.{Width}
 use Rattle.bit_words.specs.declared.width.Width.TheVariants.{B8, B16, B32}
 use Rattle.memory_map.specs.declared.span.Span.{Span}
-use Rattle.memory_map.specs.Range.{Range, byte_at}
+use Rattle.memory_map.specs.Range.{Range, byte_at, end_of}
 use Rattle.address_regions.specs.declared.region.Region.{Region}
 use Rattle.address_regions.specs.declared.region.Region.TheVariants.{Stack}
-use Rattle.address_regions.specs.Extents.{is_in_extent}
+use Rattle.address_regions.specs.Extents.{high_of, is_in_extent, low_of}
 use Rattle.address_regions.specs.Places.{Places, HasBase, place_at, SameWindows}
 use Rattle.address_regions.specs.Same.{same_region}
 use Rattle.domain_laws.specs.Laws.{Values}
@@ -45,6 +45,11 @@ pub record AreBytes (ranges : List Range) (i : Interval) : Type 0 where
 -- no two bytes of the areas share an address: the segments, the windows and the blocks lie apart
 pub record IsApart (ranges : List Range) (p : Places) : Type 0 where
   pub one : (a c : Area) (o q : ℤ) (base other : ℕ) → StartsAt p a base → StartsAt p c other → is_byte_of ranges a o ≡ true → is_byte_of ranges c q ≡ true → place_at base o ≡ place_at other q → (a ≡ c) × (base ≡ other) × (o ≡ q)
+
+-- the windows and the blocks lie apart from each other and from the segments
+pub record IsSpread (ranges : List Range) (p : Places) : Type 0 where
+  pub segments : All (λ t. (r : Region) (x : ℕ) → HasBase p r x → (pos (end_of t) ≤ℤ (pos x +ℤ low_of r)) ⊎ ((pos x +ℤ high_of r) ≤ℤ pos t.low)) ranges
+  pub windows : (r s : Region) (x y : ℕ) → HasBase p r x → HasBase p s y → ((r ≡ s) × (x ≡ y)) ⊎ (((pos x +ℤ high_of r) ≤ℤ (pos y +ℤ low_of s)) ⊎ ((pos y +ℤ high_of s) ≤ℤ (pos x +ℤ low_of r)))
 
 -- the number of two bytes from an offset on, the lowest first
 abbrev pub half_in : (ℕ → ℕ) → ℕ → ℤ → ℕ

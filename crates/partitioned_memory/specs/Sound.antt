@@ -1,20 +1,18 @@
 -- The calls are right about memory: what a description leads to.
-use Rattle.std.specs.Prelude.{◌≡◌, ℕ, true, false, List, ℤ, pos}
+use Rattle.std.specs.Prelude.{◌≡◌, ℕ, true, false, List, ℤ, pos, All}
 use Rattle.bit_words.specs.declared.width.Width.{Width}
 use Rattle.bit_words.specs.Width.{bytes_of}
 use Rattle.memory_map.specs.declared.span.Span.{Span}
-use Rattle.memory_map.specs.Range.{Range}
+use Rattle.memory_map.specs.Range.{IsInUserSpace, Range}
 use Rattle.address_regions.specs.declared.region.Region.{Region}
-use Rattle.address_regions.specs.declared.region.Region.TheVariants.{Stack}
 use Rattle.address_regions.specs.Extents.{has_one_base}
-use Rattle.address_regions.specs.Places.{Places, HasBase, IsValid}
+use Rattle.address_regions.specs.Places.{Places, IsValid}
 use Rattle.domain_laws.specs.Laws.{Values}
 use Rattle.partitioned_memory.specs.declared.area.Area.{Area}
-use Rattle.partitioned_memory.specs.declared.area.Area.TheVariants.{In}
 use Rattle.partitioned_memory.specs.Areas.{interval_at, interval_to, block_in}
 use Rattle.partitioned_memory.specs.Held.{Held, after_block, after_exact, after_forgetting, after_inside, covers_held, is_counted, read_of}
 use Rattle.partitioned_memory.specs.Well.{HasCount, IsWell}
-use Rattle.partitioned_memory.specs.Describes.{AreBytes, GainsBlock, IsApart, IsDescribed, IsFresh, IsWritten, StartsAt, bytes_in, number_in, stack_bytes_below}
+use Rattle.partitioned_memory.specs.Describes.{AreBytes, GainsBlock, IsApart, IsDescribed, IsFresh, IsSpread, IsWritten, StartsAt, bytes_in, number_in, stack_bytes_below}
 
 -- what is read stands for the number in memory
 abbrev pub ReadStands : {D : Type 0} → Values D → Type 0
@@ -66,3 +64,7 @@ CoversDescribes {D} d =
     IsValid p → covers_held d t s ≡ true →
     IsDescribed d ranges unset p s b →
     IsDescribed d ranges unset p t b
+
+-- windows and blocks that lie apart have no address in common, nor with the segments
+abbrev pub SpreadIsApart : Type 0
+SpreadIsApart = (ranges : List Range) (p : Places) → IsValid p → All IsInUserSpace ranges → IsSpread ranges p → IsApart ranges p

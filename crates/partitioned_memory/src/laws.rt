@@ -1,5 +1,5 @@
 ghost use Rattle.domain_laws.specs.Made.{values_of};
-ghost use Rattle.partitioned_memory.specs.Sound.{BlockKeeps, CoversDescribes, ExactKeeps, ForgetKeeps, InsideKeeps, ReadStands};
+ghost use Rattle.partitioned_memory.specs.Sound.{BlockKeeps, CoversDescribes, ExactKeeps, ForgetKeeps, InsideKeeps, ReadStands, SpreadIsApart};
 
 use domain_laws::Domain;
 
@@ -17,5 +17,9 @@ pub fn calls_are_right<D: Domain>()
     ensures forget_below { ForgetKeeps (values_of D.Domain.own D.eq) }
     ensures add_block { BlockKeeps (values_of D.Domain.own D.eq) }
     ensures covers { CoversDescribes (values_of D.Domain.own D.eq) }
-{
-}
+{}
+
+/// Where the windows and the blocks of a run lie apart from each other and from the segments, as they do in memory, each address is that of one byte at most.
+pub fn spread_is_apart()
+    ensures { SpreadIsApart }
+{}

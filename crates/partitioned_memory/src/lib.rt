@@ -14,5 +14,5 @@ mod parts;
 
 pub use area::Area;
 pub use fact::{Counted, Dirty, Fact, Spot};
-pub use laws::calls_are_right;
+pub use laws::{calls_are_right, spread_is_apart};
 pub use parts::Parts;

@@ -180,21 +180,24 @@ impl<D: Domain> Parts<D> {
 
     /// The i-th fact.
     pub fn fact(&self, i: usize) -> Option<Fact<D>>
-        ensures { result ≡ slice_get self.now.facts i }
+        ensures value { result ≡ slice_get self.now.facts i }
+        ensures well { IsWell (values_of D.Domain.own D.eq) self.now }
     {
         self.facts.get(i).copied()
     }
 
     /// The i-th dirty range.
     pub fn dirty(&self, i: usize) -> Option<Dirty>
-        ensures { result ≡ slice_get self.now.dirty i }
+        ensures value { result ≡ slice_get self.now.dirty i }
+        ensures well { IsWell (values_of D.Domain.own D.eq) self.now }
     {
         self.dirty.get(i).copied()
     }
 
     /// The i-th region with a count.
     pub fn counted(&self, i: usize) -> Option<Counted>
-        ensures { result ≡ slice_get self.now.blocks i }
+        ensures value { result ≡ slice_get self.now.blocks i }
+        ensures well { IsWell (values_of D.Domain.own D.eq) self.now }
     {
         self.blocks.get(i).copied()
     }

@@ -1,7 +1,4 @@
 use Rattle.domain_laws.specs.Made.{values_of}
-use Rattle.bit_words.specs.Width.{bytes_of}
-use Rattle.std.proofs.Common.{pos, cond, true, false, refl, ◌≡◌, sym}
-use Rattle.partitioned_memory.specs.Areas.{interval_at}
 use Rattle.partitioned_memory.proofs.FactsKept.{exact-keeps, inside-keeps}
 use Rattle.partitioned_memory.proofs.CallsKept.{covers-describes, forget-keeps, read-stands}
 use Rattle.partitioned_memory.proofs.BlockKept.{block-keeps}
