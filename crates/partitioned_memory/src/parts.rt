@@ -29,6 +29,7 @@ use std::marker::Model;
 ///
 /// No two facts of one area share a byte, and none is of a value of rank 0. No two dirty ranges of one area share a byte or touch.
 /// Each block region that a fact, its value or a dirty range names has a count.
+/// After a call answered want of memory the parts are as they were.
 #[derive(Drop)]
 pub struct Parts<D: Domain> {
     facts: Vec<Fact<D>>,
@@ -178,7 +179,7 @@ impl<D: Domain> Parts<D> {
         Ok(())
     }
 
-    /// The i-th fact.
+    /// The i-th fact, counted from 0.
     pub fn fact(&self, i: usize) -> Option<Fact<D>>
         ensures value { result ≡ slice_get self.now.facts i }
         ensures well { IsWell (values_of D.Domain.own D.eq) self.now }
@@ -186,7 +187,7 @@ impl<D: Domain> Parts<D> {
         self.facts.get(i).copied()
     }
 
-    /// The i-th dirty range.
+    /// The i-th dirty range, counted from 0.
     pub fn dirty(&self, i: usize) -> Option<Dirty>
         ensures value { result ≡ slice_get self.now.dirty i }
         ensures well { IsWell (values_of D.Domain.own D.eq) self.now }
@@ -194,7 +195,7 @@ impl<D: Domain> Parts<D> {
         self.dirty.get(i).copied()
     }
 
-    /// The i-th region with a count.
+    /// The i-th region with a count, counted from 0.
     pub fn counted(&self, i: usize) -> Option<Counted>
         ensures value { result ≡ slice_get self.now.blocks i }
         ensures well { IsWell (values_of D.Domain.own D.eq) self.now }
@@ -202,7 +203,7 @@ impl<D: Domain> Parts<D> {
         self.blocks.get(i).copied()
     }
 
-    /// The fact of a spot and a width gets a value, and goes where that has rank 0.
+    /// The fact of a spot and a width gets a value, and goes where that has rank 0. Without such a fact nothing changes.
     pub fn put_fact(&mut self, area: Area, low: i64, w: Width, v: D) -> Result<(), NoMemory>
         requires value { MayHold (values_of D.Domain.own D.eq) self.old.blocks w v }
         ensures ok { OnOk result (self.new ≡ after_fact (values_of D.Domain.own D.eq) area low w v self.old) }
