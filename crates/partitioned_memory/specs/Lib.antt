@@ -1,0 +1,6 @@
+pub mod Areas
+pub mod Lists
+pub mod Held
+pub mod Well
+pub mod Describes
+pub mod Sound

@@ -1,0 +1,18 @@
+// What a state of the analysis knows of memory: facts by area and offset, bytes written unknown, and how many blocks there are of each region.
+// It stands on `bit_words`, `memory_map`, `address_ranges`, `address_regions` and `domain_laws`.
+// Its contract: `Parts` is three ascending lists, and each call is its definition over them (`specs/Held.antt`), for every domain.
+#![tactic(auto)]
+
+mod area;
+mod count_list;
+mod dirty_list;
+mod fact;
+mod fact_list;
+mod known;
+mod laws;
+mod parts;
+
+pub use area::Area;
+pub use fact::{Counted, Dirty, Fact, Spot};
+pub use laws::{calls_are_right, spread_is_apart};
+pub use parts::Parts;
