@@ -121,22 +121,58 @@ edge 08048008 0804800B 7401 je 0804800B
 end 4 3 0
 ";
 
+// A loop that counts: after four numbers any number is known, and the log has twelve rows.
+const COUNTING_LOOP: &str = "\
+jakstab-automaton 1
+entry 08048000
+loc 08048000
+loc 08048005
+loc 08048006
+edge 08048000 08048005 B800000000 mov eax, 00000000
+edge 08048005 08048006 40 inc eax
+edge 08048006 08048005 EBFD jmp 08048005
+end 3 3 0
+";
+
+const COUNTING_LOOP_SPENT: &str = "\
+jakstab-automaton 1
+entry 08048000
+loc 08048000
+loc 08048005
+loc 08048006
+edge 08048000 08048005 B800000000 mov eax, 00000000
+edge 08048005 08048006 40 inc eax
+edge 08048006 08048005 EBFD jmp 08048005
+open 08048005 budget
+end 3 3 1
+";
+
+const COUNTING: &[u8] = b"\xB8\0\0\0\0\x40\xEB\xFD";
+
 #[test]
 fn images_are_recovered_to_their_texts(rt: HostRuntime) -> Result<(), Fail> {
     let alloc = rt.alloc();
-    let words = words_of(alloc, &["recover", "a"])?;
-    let rows: [(&[u8], &str); 6] = [
-        (b"\xEB\xFE", SELF_JUMP),
-        (b"\xEB\xFF\xC0\xF4", OVERLAP),
+    let plain: &[&str] = &["recover", "a"];
+    let twelve: &[&str] = &["recover", "--k", "4", "--budget", "12", "a"];
+    let eleven: &[&str] = &["recover", "a", "--k=4", "--budget=11"];
+    let flat: &[&str] = &["recover", "--domain", "flat", "a"];
+    let rows: [(&[&str], &[u8], &str); 9] = [
+        (plain, b"\xEB\xFE", SELF_JUMP),
+        (plain, b"\xEB\xFF\xC0\xF4", OVERLAP),
         (
+            plain,
             b"\xB8\x01\0\0\0\x83\xF8\x01\x74\x01\x0F\xF4",
             KNOWN_COMPARE,
         ),
-        (b"\x74\x00\xF4", JE_NEXT),
-        (b"\x74\x01\xE9\x90\x90\xF4\x00", JUMP_INTO_NEXT),
-        (b"\xE9\xFB\x7F\xFB\xE7", JUMP_TO_EXIT),
+        (plain, b"\x74\x00\xF4", JE_NEXT),
+        (plain, b"\x74\x01\xE9\x90\x90\xF4\x00", JUMP_INTO_NEXT),
+        (plain, b"\xE9\xFB\x7F\xFB\xE7", JUMP_TO_EXIT),
+        (twelve, COUNTING, COUNTING_LOOP),
+        (eleven, COUNTING, COUNTING_LOOP_SPENT),
+        (flat, COUNTING, COUNTING_LOOP),
     ];
-    for (code, want) in rows {
+    for (words, code, want) in rows {
+        let words = words_of(alloc, words)?;
         let mut shelf = MemoryShelf::new(alloc, Vec::new(alloc));
         shelf.put("a", file_with(alloc, code)?)?;
         let mut out = sink(alloc, 4096, Vec::new(alloc))?;
