@@ -50,10 +50,12 @@ module _ {D : Type 0} (d : Values D) (l : IsLawful d) where
 
   pub covering-is_sound : CoveringIsSound d
   unfolding covers_state
-  covering-is_sound image t s m e (p, h) =
-      (p, record {
-        fits = h.fits;
-        words = h.words;
-        registers = registers_cover t.regs s.regs p m.registers h.fits.valid (first _ _ e) h.registers;
-        flags = flags_cover t.flags s.flags m.flags (rest _ _ e) h.flags;
-      })
+  covering-is_sound image t s m e (p, h) = (
+    p,
+    record {
+      fits = h.fits;
+      words = h.words;
+      registers = registers_cover t.regs s.regs p m.registers h.fits.valid (first _ _ e) h.registers;
+      flags = flags_cover t.flags s.flags m.flags (rest _ _ e) h.flags;
+    },
+  )

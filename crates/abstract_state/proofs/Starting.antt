@@ -51,10 +51,13 @@ allowed_at image m start r b is = at r b is
   where
     map : MapsExactly image m
     map = start.mapped
+
     inside : (r : Range) → Contains (memory m) r → IsInUserSpace r
     inside r held = All-contains IsInUserSpace (memory m) r start.inside held
+
     among : (r : Range) → Contains (map.held ++ map.fs_window ∷ map.gs_window ∷ []) r → IsInUserSpace r
     among r held = inside r (Contains-later m.stack r m.ranges (let P : List Range → Type 0 = λ rs. Contains rs r in subst P (sym map.ranges) held))
+
     at : (r : Region) (b : ℕ) → HasBase (places_of image m) r b → IsAllowed r b
     at Stack b e = (let P : ℕ → Type 0 = λ x. IsAllowed Stack x in subst P (sym e) (stack_allowed m.stack m.registers.esp map.stack (inside m.stack (Contains-here m.stack m.ranges))))
     at Fs b e = (let P : ℕ → Type 0 = λ x. IsAllowed Fs x in subst P (sym e) (fs_allowed map.fs_window m.fs map.fs (among map.fs_window (in_last map.held map.fs_window map.gs_window).0)))
@@ -73,10 +76,12 @@ module _ {D : Type 0} (d : Values D) (l : IsLawful d) where
       let any : (x : ℕ) → d.stands d.any p x = λ x. l.any_stands p x valid in
       let at : ℕ → Type 0 = λ x. d.stands (d.place Stack (pos 0)) p x in
       let esp : d.stands (d.place Stack (pos 0)) p m.registers.esp =
-      subst at (base_is m.registers.esp start.words.esp) (l.place_stands Stack (pos 0) m.registers.esp p valid refl) in
-      (p, record {
-        fits = record { valid = valid; align = refl; stack = start.mapped.stack.low; fs = refl; gs = refl };
-        words = start.words;
-        registers = record { eax = any m.registers.eax; ecx = any m.registers.ecx; edx = any m.registers.edx; ebx = any m.registers.ebx; esp = esp; ebp = any m.registers.ebp; esi = any m.registers.esi; edi = any m.registers.edi };
-        flags = record { carry = tt; parity = tt; adjust = tt; zero = tt; sign = tt; overflow = tt; direction = start.direction };
-      })
+      subst at (base_is m.registers.esp start.words.esp) (l.place_stands Stack (pos 0) m.registers.esp p valid refl) in (
+        p,
+        record {
+          fits = record { valid = valid; align = refl; stack = start.mapped.stack.low; fs = refl; gs = refl };
+          words = start.words;
+          registers = record { eax = any m.registers.eax; ecx = any m.registers.ecx; edx = any m.registers.edx; ebx = any m.registers.ebx; esp = esp; ebp = any m.registers.ebp; esi = any m.registers.esi; edi = any m.registers.edi };
+          flags = record { carry = tt; parity = tt; adjust = tt; zero = tt; sign = tt; overflow = tt; direction = start.direction };
+        },
+      )

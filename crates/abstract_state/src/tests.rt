@@ -21,7 +21,10 @@ fn of_three_numbers_the_third_is_raised_where_two_are_kept(rt: HostRuntime) -> R
         (7, 2, FlatNumbers::Any),
         (7, 3, FlatNumbers::Number(7)),
     ] {
-        assert!(rt; with_eax(n).widen(k, &seen).regs.eax == want, "{n} with {k}");
+        assert!(rt;
+            with_eax(n).widen(k, &seen).regs.eax == want,
+            "{n} with {k}"
+        );
     }
     Ok(())
 }
@@ -76,7 +79,10 @@ fn conditions_by_what_is_known_of_flags(rt: HostRuntime) {
         (zero_unknown, 14, Truth::Unknown),
         (zero_unknown, 2, Truth::No),
     ] {
-        assert!(rt; flags.meets(Cond(condition)) == want, "condition {condition}");
+        assert!(rt;
+            flags.meets(Cond(condition)) == want,
+            "condition {condition}"
+        );
     }
 }
 

@@ -43,12 +43,7 @@ impl<D: Domain> Exploration<D> {
         ensures indexed { IfOk result (IsIndexed (values_of D.Domain.own D.eq)) }
     {
         let mut rows = Vec::new(alloc);
-        rows.push(Row::new(
-            None,
-            image.entry(),
-            State::start(),
-            0 < limits.budget,
-        ))?;
+        rows.push(Row::new(None, image.entry(), State::start(), 0 < limits.budget))?;
         let mut visits = HashMap::new(alloc);
         let mut first = Visits::new(alloc);
         first.add(State::start())?;
@@ -170,12 +165,7 @@ impl<D: Domain> Exploration<D> {
     }
 
     // The causes that the expansion of a row gave, and the ranges that it may write.
-    fn note(
-        &mut self,
-        number: u32,
-        causes: &[Cause],
-        writes: &[(u32, u32)],
-    ) -> Result<(), NoMemory>
+    fn note(&mut self, number: u32, causes: &[Cause], writes: &[(u32, u32)]) -> Result<(), NoMemory>
         requires { IsIndexed (values_of D.Domain.own D.eq) self.old }
         ensures log { OnOk result (log_in self.new ≡ notes_added number causes.now writes.now (log_in self.old)) }
         ensures indexed { OnOk result (IsIndexed (values_of D.Domain.own D.eq) self.new) }
@@ -242,11 +232,7 @@ impl<D: Domain> Exploration<D> {
         ensures log { OnOk result (log_in self.new ≡ pairs_added (values_of D.Domain.own D.eq) limits.k limits.budget number at post.now.bytes.items post.now.expansion.next (notes_added number post.now.expansion.causes post.now.expansion.writes (log_in self.old))) }
         ensures indexed { OnOk result (IsIndexed (values_of D.Domain.own D.eq) self.new) }
     {
-        self.note(
-            number,
-            post.expansion.causes(),
-            post.expansion.writes(),
-        )?;
+        self.note(number, post.expansion.causes(), post.expansion.writes())?;
         self.follow(
             alloc,
             number,
@@ -269,11 +255,7 @@ impl<D: Domain> Exploration<D> {
     }
 }
 
-fn push_causes(
-    out: &mut Vec<(u32, Cause)>,
-    number: u32,
-    causes: &[Cause],
-) -> Result<(), NoMemory>
+fn push_causes(out: &mut Vec<(u32, Cause)>, number: u32, causes: &[Cause]) -> Result<(), NoMemory>
     ensures { OnOk result (out.new.items ≡ out.old.items ++ map (λ c. (number, c)) causes.now) }
 {
     for cause in causes {
@@ -283,11 +265,7 @@ fn push_causes(
 }
 
 /// The log of an image over a domain, of which the first `budget` rows are expanded.
-pub fn explore<D: Domain>(
-    alloc: Global,
-    image: &Image,
-    limits: Limits,
-) -> Result<Log<D>, NoMemory>
+pub fn explore<D: Domain>(alloc: Global, image: &Image, limits: Limits) -> Result<Log<D>, NoMemory>
     ensures { IfOk result (λ log. log ≡ image_log (values_of D.Domain.own D.eq) image.now limits.k limits.budget) }
 {
     let mut exploration = Exploration::start(alloc, image, limits)?;

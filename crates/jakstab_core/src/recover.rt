@@ -21,11 +21,7 @@ fn log_text<D: Domain>(alloc: Global, image: &Image, limits: Limits) -> Result<V
 }
 
 /// The text of the automaton of an image.
-pub fn recovered_text(
-    alloc: Global,
-    image: &Image,
-    options: Options,
-) -> Result<Vec<u8>, NoMemory>
+pub fn recovered_text(alloc: Global, image: &Image, options: Options) -> Result<Vec<u8>, NoMemory>
     ensures { IfOk result (λ text. text.items ≡ recovered_text image.now options) }
 {
     let limits = Limits {

@@ -74,11 +74,27 @@ module _ {D : Type 0} (d : Values D) (l : IsLawful d) (image : Image) (p : Place
         describes = record {
           fits = record { valid = f.valid; align = f.align; stack = f.stack; fs = f.fs; gs = f.gs };
           words = record {
-            eax = k.eax.fits; ecx = k.ecx.fits; edx = k.edx.fits; ebx = k.ebx.fits; esp = k.esp.fits; ebp = k.ebp.fits; esi = k.esi.fits; edi = k.edi.fits;
-            eip = w.eip; fs = w.fs; gs = w.gs
+            eax = k.eax.fits;
+            ecx = k.ecx.fits;
+            edx = k.edx.fits;
+            ebx = k.ebx.fits;
+            esp = k.esp.fits;
+            ebp = k.ebp.fits;
+            esi = k.esi.fits;
+            edi = k.edi.fits;
+            eip = w.eip;
+            fs = w.fs;
+            gs = w.gs;
           };
           registers = record {
-            eax = k.eax.stands; ecx = k.ecx.stands; edx = k.edx.stands; ebx = k.ebx.stands; esp = k.esp.stands; ebp = k.ebp.stands; esi = k.esi.stands; edi = k.edi.stands
+            eax = k.eax.stands;
+            ecx = k.ecx.stands;
+            edx = k.edx.stands;
+            ebx = k.ebx.stands;
+            esp = k.esp.stands;
+            ebp = k.ebp.stands;
+            esi = k.esi.stands;
+            edi = k.edi.stands;
           };
           flags = subst P (sym same) h.describes.flags;
         };
@@ -93,7 +109,17 @@ module _ {D : Type 0} (d : Values D) (l : IsLawful d) (image : Image) (p : Place
         describes = record {
           fits = record { valid = e.valid; align = e.align; stack = e.stack; fs = e.fs; gs = e.gs };
           words = record {
-            eax = w.eax; ecx = w.ecx; edx = w.edx; ebx = w.ebx; esp = w.esp; ebp = w.ebp; esi = w.esi; edi = w.edi; eip = w.eip; fs = w.fs; gs = w.gs
+            eax = w.eax;
+            ecx = w.ecx;
+            edx = w.edx;
+            ebx = w.ebx;
+            esp = w.esp;
+            ebp = w.ebp;
+            esi = w.esi;
+            edi = w.edi;
+            eip = w.eip;
+            fs = w.fs;
+            gs = w.gs;
           };
           registers = record { eax = g.eax; ecx = g.ecx; edx = g.edx; ebx = g.ebx; esp = g.esp; ebp = g.ebp; esi = g.esi; edi = g.edi };
           flags = stand;
@@ -108,7 +134,17 @@ module _ {D : Type 0} (d : Values D) (l : IsLawful d) (image : Image) (p : Place
       record {
         fits = record { valid = e.valid; align = e.align; stack = e.stack; fs = e.fs; gs = e.gs };
         words = record {
-          eax = w.eax; ecx = w.ecx; edx = w.edx; ebx = w.ebx; esp = w.esp; ebp = w.ebp; esi = w.esi; edi = w.edi; eip = less; fs = w.fs; gs = w.gs
+          eax = w.eax;
+          ecx = w.ecx;
+          edx = w.edx;
+          ebx = w.ebx;
+          esp = w.esp;
+          ebp = w.ebp;
+          esi = w.esi;
+          edi = w.edi;
+          eip = less;
+          fs = w.fs;
+          gs = w.gs;
         };
         registers = record { eax = g.eax; ecx = g.ecx; edx = g.edx; ebx = g.ebx; esp = g.esp; ebp = g.ebp; esi = g.esi; edi = g.edi };
         flags = h.flags;

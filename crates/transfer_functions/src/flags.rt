@@ -139,7 +139,13 @@ fn after_increment<D: Domain>(w: Width, a: D, t: &Truths, align: u32) -> Truths
         adjust: sum_adjust(w, a.number_of(), Some(1)),
         overflow: sum_overflow(w, a.number_of(), Some(1)),
     };
-    by_result(w, D::eval(Op::Add, w, a, D::number(1), align), others, t, align)
+    by_result(
+        w,
+        D::eval(Op::Add, w, a, D::number(1), align),
+        others,
+        t,
+        align,
+    )
 }
 
 // DEC.
@@ -151,7 +157,13 @@ fn after_decrement<D: Domain>(w: Width, a: D, t: &Truths, align: u32) -> Truths
         adjust: difference_adjust(w, a.number_of(), Some(1)),
         overflow: difference_overflow(w, a.number_of(), Some(1)),
     };
-    by_result(w, D::eval(Op::Sub, w, a, D::number(1), align), others, t, align)
+    by_result(
+        w,
+        D::eval(Op::Sub, w, a, D::number(1), align),
+        others,
+        t,
+        align,
+    )
 }
 
 /// What is known of the flags after an instruction of a rule with operands `a` and `b`, where `t` was known before.
