@@ -1,14 +1,22 @@
 -- What a covering state describes.
-use Rattle.std.proofs.Common.{◌≡◌, Bool, true, false, ◌&&◌, refl}
+use Rattle.std.proofs.Common.{◌≡◌, ℕ, Bool, true, false, ◌&&◌, Option, Some, None, refl, sym, ap, ◌∙◌, subst, arith, ℤ}
+use Rattle.std.specs.Prelude.{◌==◌}
+use Rattle.std.specs.Ordering.{int_eq}
+use Rattle.std.proofs.lemmas.Grind.{common_steps}
+use Rattle.std.proofs.lemmas.Int.{ints}
 use Rattle.address_regions.specs.Places.{Places, IsValid}
 use Rattle.domain_laws.specs.Laws.{Values, IsLawful}
-use Rattle.memory_map.specs.State.{Flags, Registers}
+use Rattle.memory_map.specs.State.{Flags, MachineState}
 use Rattle.abstract_state.specs.declared.flags.Truths.{Truths}
-use Rattle.abstract_state.specs.declared.registers.Regs.{Regs}
+use Rattle.memory_map.specs.declared.registers.Regs.{Regs}
 use Rattle.abstract_state.specs.Flags.{FlagsStand, covers_flags}
 use Rattle.abstract_state.specs.Registers.{RegistersStand, covers_registers}
 use Rattle.abstract_state.specs.State.{covers_state}
-use Rattle.abstract_state.specs.Describes.{Describes}
+use Rattle.partitioned_memory.proofs.CallsKept.{covers-describes}
+use Rattle.abstract_state.specs.declared.note.Note.{Note}
+use Rattle.abstract_state.specs.declared.note.Note.TheVariants.{Register, Word}
+use Rattle.abstract_state.specs.Notes.{covers_note, same_note}
+use Rattle.abstract_state.specs.Describes.{NoteStands, byte_in}
 use Rattle.abstract_state.specs.Laws.{CoveringIsSound}
 use Rattle.abstract_state.proofs.Logic.{covers_stands}
 
@@ -33,8 +41,31 @@ flags_cover t s f e h =
       direction = covers_stands t.direction s.direction f.direction (rest _ _ e) h.direction;
     }
 
+pub nat-same : (a b : ℕ) → (a == b) ≡ true → a ≡ b
+nat-same a b e = grind (arith, common_steps)
+
+pub int-same : (a b : ℤ) → int_eq a b ≡ true → a ≡ b
+int-same a b e = grind (arith, ints, common_steps)
+
+same_note-is : (t s : Note) → same_note t s ≡ true → t ≡ s
+same_note-is (Register r c) (Register q k) e =
+    let same : r ≡ q = nat-same r q (first _ _ e) in
+    let number : c ≡ k = nat-same c k (rest _ _ e) in
+    ap (λ x. Register x c) same ∙ ap (Register q) number
+same_note-is (Register r c) (Word o k) e = absurd (cc)
+same_note-is (Word o c) (Register r k) e = absurd (cc)
+same_note-is (Word o c) (Word q k) e =
+    let same : o ≡ q = int-same o q (first _ _ e) in
+    let number : c ≡ k = nat-same c k (rest _ _ e) in
+    ap (λ x. Word x c) same ∙ ap (Word q) number
+
+note_cover : (t s : Option Note) (p : Places) (m : MachineState) → covers_note t s ≡ true → NoteStands s p m → NoteStands t p m
+note_cover None s p m e h = tt
+note_cover (Some t) None p m e h = absurd (cc)
+note_cover (Some t) (Some s) p m e h = subst (λ (n : Note). NoteStands (Some n) p m) (sym (same_note-is t s e)) h
+
 module _ {D : Type 0} (d : Values D) (l : IsLawful d) where
-  registers_cover : (t s : Regs D) (p : Places) (m : Registers) → IsValid p → covers_registers d t s ≡ true → RegistersStand d s p m → RegistersStand d t p m
+  registers_cover : (t s : Regs D) (p : Places) (m : Regs ℕ) → IsValid p → covers_registers d t s ≡ true → RegistersStand d s p m → RegistersStand d t p m
   registers_cover t s p m valid e h =
       let e1 = first _ _ e in let e2 = first _ _ e1 in let e3 = first _ _ e2 in let e4 = first _ _ e3 in let e5 = first _ _ e4 in let e6 = first _ _ e5 in
       record {
@@ -50,12 +81,13 @@ module _ {D : Type 0} (d : Values D) (l : IsLawful d) where
 
   pub covering-is_sound : CoveringIsSound d
   unfolding covers_state
-  covering-is_sound image t s m e (p, h) = (
-    p,
-    record {
-      fits = h.fits;
-      words = h.words;
-      registers = registers_cover t.regs s.regs p m.registers h.fits.valid (first _ _ e) h.registers;
-      flags = flags_cover t.flags s.flags m.flags (rest _ _ e) h.flags;
-    },
-  )
+  covering-is_sound image t s p m e h =
+      let e1 = rest _ _ e in let e2 = rest _ _ e1 in
+      record {
+        fits = h.fits;
+        words = h.words;
+        registers = registers_cover t.regs s.regs p m.registers h.fits.valid (first _ _ e) h.registers;
+        flags = flags_cover t.flags s.flags m.flags (first _ _ e1) h.flags;
+        note = note_cover t.note s.note p m (first _ _ e2) h.note;
+        parts = covers-describes d l image.segments image.unset p (byte_in m) t.parts s.parts h.fits.valid (rest _ _ e2) h.parts;
+      }

@@ -1,5 +1,15 @@
 pub mod Logic
+pub mod Keeping
+pub mod BridgeBytes
+pub mod BridgeFits
+pub mod BridgeParts
+pub mod Bridge
+pub mod BridgeKeeping
 pub mod Covering
-pub mod Widening
+pub mod Raising
+pub mod Beginning
+pub mod Narrowing
 pub mod Starting
-pub mod Taking
+pub mod Putting
+pub mod Counting
+pub mod Storing

@@ -1,5 +1,5 @@
 -- Three-valued logic is right about tests.
-use Rattle.std.proofs.Common.{◌≡◌, ℕ, Bool, true, false, not, ◌||◌, ◌&&◌, ◌==◌, ◌/◌, ◌%◌, List, [], ◌∷◌, refl, sym, ◌∙◌, ap, subst, cond}
+use Rattle.std.proofs.Common.{◌≡◌, ℕ, Bool, true, false, not, ◌||◌, ◌==◌, ◌/◌, ◌%◌, List, [], ◌∷◌, refl, sym, ap, subst}
 use Rattle.std.specs.Prelude.{⊤, slice_get, unwrap_or, zero, suc}
 use Rattle.std.proofs.Math.Bool.{xor}
 use Rattle.x86_syntax.specs.declared.instr.Cond.{Cond}
@@ -9,7 +9,7 @@ use Rattle.abstract_state.specs.declared.truth.Truth.{Truth}
 use Rattle.abstract_state.specs.declared.truth.Truth.TheVariants.{Yes, No, Unknown}
 use Rattle.abstract_state.specs.declared.flags.Truths.{Truths}
 use Rattle.abstract_state.specs.Truth.{StandsFor, truth_of, opposite, negated_if, either, differ, covers_truth}
-use Rattle.abstract_state.specs.Flags.{FlagsStand, truths_of, truth_tests, truth_met}
+use Rattle.abstract_state.specs.Flags.{FlagsStand, truths_of, truth_met}
 
 pub truth_of_stands : (b : Bool) → StandsFor (truth_of b) b
 truth_of_stands true = refl

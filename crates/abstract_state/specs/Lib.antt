@@ -1,8 +1,11 @@
 pub mod Truth
 pub mod Flags
 pub mod Registers
+pub mod Notes
 pub mod State
-pub mod Widening
 pub mod Describes
-pub mod Laws
 pub mod Expanding
+pub mod Accessing
+pub mod Refining
+pub mod Widening
+pub mod Laws

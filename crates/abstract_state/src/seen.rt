@@ -1,28 +1,80 @@
-ghost use Rattle.std.specs.Prelude.{◌≡◌, ◌==◌, ◌&&◌, [], OnOk, OnErr, count_by};
+ghost use Rattle.std.specs.Prelude.{◌≡◌, ℕ, take, [], OnOk, OnErr, IfOk, ◌++◌, map, count_by};
 ghost use Rattle.std.specs.List.{list_any};
 ghost use Rattle.domain_laws.specs.Made.{values_of};
-ghost use Rattle.abstract_state.specs.Widening.{IsPartlySeen, is_pair, is_rival, same_holder, seen_with, stays, widened_value, with_pair};
+ghost use Rattle.abstract_state.specs.Widening.{IsPartlySeen, held, held_registers, holder_of, is_pair, is_rival, same_holder, seen_with, stays, widened_value, with_pair, with_pairs};
 
 use crate::state::State;
-use bit_words::NoMemory;
+use bit_words::{NoMemory, Width};
 use domain_laws::Domain;
+use partitioned_memory::{Fact, Spot};
 use std::alloc::Global;
 use std::marker::Model;
 
-/// What holds a value in a state: the register of a number.
-#[derive(Clone, Copy, Debug, PartialEq, Eq)]
+/// What holds a value in a state.
+#[derive(Clone, Copy, Debug, PartialEq, Eq, Hash)]
 pub enum Holder {
+    /// The register of a number.
     Register(u8),
+    /// The bytes from a spot on, as many as a width has.
+    Bytes(Spot, Width),
 }
 
 impl Holder {
+    #[tactic(auto, unfolding(partitioned_memory::specs::Areas::same_area))]
     fn is(self, other: Holder) -> bool
         ensures { result ≡ same_holder self other }
     {
         match (self, other) {
             (Holder::Register(a), Holder::Register(b)) => a == b,
+            (Holder::Bytes(s, v), Holder::Bytes(t, w)) => {
+                s.area == t.area && (s.low == t.low && v.bytes() == w.bytes())
+            }
+            _ => false,
         }
     }
+}
+
+/// The bytes that hold a fact's value.
+pub(crate) fn holder_of<D: Domain>(f: &Fact<D>) -> Holder
+    ensures { result ≡ holder_of f.now }
+{
+    Holder::Bytes(
+        Spot {
+            area: f.area,
+            low: f.low,
+        },
+        f.w,
+    )
+}
+
+// What the registers hold, in their order.
+fn held_registers<D: Domain>(alloc: Global, s: &State<D>) -> Result<Vec<(Holder, D)>, NoMemory>
+    ensures { IfOk result (λ pairs. pairs.items ≡ held_registers s.now) }
+{
+    let mut pairs = Vec::new(alloc);
+    for r in 0..8u8 {
+        pairs.push((Holder::Register(r), s.register(r)))?;
+    }
+    Ok(pairs)
+}
+
+// What facts hold, in their order.
+fn push_facts<D: Domain>(pairs: &mut Vec<(Holder, D)>, facts: &[Fact<D>]) -> Result<(), NoMemory>
+    ensures { OnOk result (pairs.new.items ≡ pairs.old.items ++ map (λ f. (holder_of f, f.value)) facts.now) }
+{
+    for f in facts {
+        pairs.push((holder_of(f), f.value))?;
+    }
+    Ok(())
+}
+
+// What a state holds: registers in their order, and then facts in theirs.
+fn held<D: Domain>(alloc: Global, s: &State<D>) -> Result<Vec<(Holder, D)>, NoMemory>
+    ensures { IfOk result (λ pairs. pairs.items ≡ held s.now) }
+{
+    let mut pairs = held_registers(alloc, s)?;
+    push_facts(&mut pairs, s.parts.facts())?;
+    Ok(pairs)
 }
 
 /// The values that states at one location hold, each with what holds it, once, in the order in which they were first seen.
@@ -51,18 +103,28 @@ impl<D: Domain> Seen<D> {
     }
 
     /// Takes in what a state holds. After a refusal it has taken in a first part.
+    #[tactic(auto, unfolding(crate::specs::Widening::seen_with))]
     pub fn add(&mut self, s: &State<D>) -> Result<(), NoMemory>
         ensures ok { OnOk result (self.new ≡ seen_with (values_of D.Domain.own D.eq) s.now self.old) }
         ensures err { OnErr result (IsPartlySeen (values_of D.Domain.own D.eq) s.now self.old self.new) }
     {
-        for r in 0..8u8 {
-            self.insert(Holder::Register(r), s.regs.get(r))?;
+        let alloc = *self.pairs.allocator();
+        let pairs = held(alloc, s)?;
+        self.insert_all(&pairs)
+    }
+
+    fn insert_all(&mut self, pairs: &[(Holder, D)]) -> Result<(), NoMemory>
+        ensures ok { OnOk result (self.new ≡ with_pairs (values_of D.Domain.own D.eq) pairs.now self.old) }
+        ensures err { OnErr result ((n : ℕ) × (self.new ≡ with_pairs (values_of D.Domain.own D.eq) (take n pairs.now) self.old)) }
+    {
+        for pair in pairs {
+            self.insert(pair.0, pair.1)?;
         }
         Ok(())
     }
 
     fn insert(&mut self, holder: Holder, value: D) -> Result<(), NoMemory>
-        ensures ok { OnOk result (self.new ≡ with_pair (values_of D.Domain.own D.eq) (holder, value) self.old) }
+        ensures ok { OnOk result (self.new ≡ with_pair (values_of D.Domain.own D.eq) self.old (holder, value)) }
         ensures err { OnErr result (self.new ≡ self.old) }
     {
         if !self.has(holder, value) {
@@ -99,17 +161,17 @@ impl<D: Domain> Seen<D> {
         self.has(holder, value) || self.rivals(holder, value.rank()) < k as usize
     }
 
-    /// The value, raised until it was seen, has rank 0, or has a rank of which fewer than `k` values were seen.
-    pub fn widened(&self, k: u32, holder: Holder, value: D) -> D
+    /// The value, raised until it was seen there, has rank 0, or has a rank of which fewer than `k` values were seen there.
+    pub(crate) fn widened(&self, k: u32, holder: Holder, value: D) -> D
         ensures { result ≡ widened_value (values_of D.Domain.own D.eq) k self.now holder value }
     {
         let mut widened = value;
-        for _turn in 0..value.rank() {
+        for _turn in 0..u32::from(value.rank()) + 1 {
             if self.keeps(k, holder, widened) {
                 return widened;
             }
             widened = widened.raise();
         }
-        widened
+        D::any()
     }
 }

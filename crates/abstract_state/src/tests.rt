@@ -1,44 +1,84 @@
 use super::*;
-use bit_words::NoMemory;
+use bit_words::{NoMemory, Width};
 use domain_laws::FlatNumbers;
+use image_loader::Image;
+use memory_map::{Bytes, Format, Items, Perm, Ranges, Segment, Segments};
+use std::alloc::Global;
 use std::test::Fail;
 use x86_syntax::Cond;
 
-fn with_eax(n: u32) -> State<FlatNumbers> {
-    let mut s = State::start();
-    s.regs.eax = FlatNumbers::Number(n);
-    s
+// Four bytes at 08048000 that may be written, and four at 08049000 that may not.
+fn image(alloc: Global) -> Result<Option<Image>, NoMemory> {
+    let mut list = Vec::new(alloc);
+    for (low, perm) in [
+        (0x0804_8000, Perm::READ | Perm::WRITE),
+        (0x0804_9000, Perm::READ),
+    ] {
+        let mut bytes = Vec::new(alloc);
+        for b in [1u8, 2, 3, 4] {
+            bytes.push(b)?;
+        }
+        list.push(Segment {
+            low,
+            bytes: Bytes::from_vec(bytes),
+            perm,
+        })?;
+    }
+    match Segments::new(list) {
+        Ok(segments) => Ok(Image::new(
+            segments,
+            Ranges::from_vec(Vec::new(alloc)),
+            0x0804_8000,
+            Format::Elf,
+            Items::from_vec(Vec::new(alloc)),
+            16,
+        )),
+        Err(_) => Ok(None),
+    }
 }
 
 #[test]
-fn of_three_numbers_the_third_is_raised_where_two_are_kept(rt: HostRuntime) -> Result<(), Fail> {
-    let mut seen = Seen::new(rt.alloc());
-    seen.add(&with_eax(5))?;
-    seen.add(&with_eax(6))?;
-    seen.add(&with_eax(6))?;
-    for (n, k, want) in [
-        (6, 2, FlatNumbers::Number(6)),
-        (7, 2, FlatNumbers::Any),
-        (7, 3, FlatNumbers::Number(7)),
+fn loads_by_the_address(rt: HostRuntime) -> Result<(), Fail> {
+    let alloc = rt.alloc();
+    let Some(image) = image(alloc)? else {
+        assert!(rt; false, "no image");
+        return Ok(());
+    };
+    let start = State::start(alloc, &image)?;
+    for (address, want) in [
+        (
+            FlatNumbers::Number(0x0804_8000),
+            Some(FlatNumbers::Number(0x0403_0201)),
+        ),
+        (
+            FlatNumbers::Number(0x0804_9000),
+            Some(FlatNumbers::Number(0x0403_0201)),
+        ),
+        (FlatNumbers::Number(0x0804_8001), Some(FlatNumbers::Any)),
+        (FlatNumbers::Number(0x1000), Some(FlatNumbers::Any)),
+        (FlatNumbers::Number(0xFFF), None),
+        (FlatNumbers::Number(0xEFFF_FFFD), None),
+        (FlatNumbers::Any, Some(FlatNumbers::Any)),
     ] {
-        assert!(rt;
-            with_eax(n).widen(k, &seen).regs.eax == want,
-            "{n} with {k}"
-        );
+        assert!(rt; start.load(&image, address, Width::B32) == want);
     }
     Ok(())
 }
 
 #[test]
-fn a_start_covers_numbers_and_no_number_covers_it(rt: HostRuntime) {
-    let start = State::start();
-    assert!(rt; start.covers(&with_eax(5)));
-    assert!(rt; !with_eax(5).covers(&start));
-    assert!(rt; !with_eax(5).covers(&with_eax(6)));
-    let mut other = start.copy();
-    other.flags.direction = Truth::Unknown;
+fn a_start_covers_itself_and_nothing_unknown(rt: HostRuntime) -> Result<(), Fail> {
+    let alloc = rt.alloc();
+    let Some(image) = image(alloc)? else {
+        assert!(rt; false, "no image");
+        return Ok(());
+    };
+    let start: State<FlatNumbers> = State::start(alloc, &image)?;
+    let mut other = start.copy()?;
+    other.set_direction(Truth::Unknown);
+    assert!(rt; start.covers(&start));
     assert!(rt; other.covers(&start));
     assert!(rt; !start.covers(&other));
+    Ok(())
 }
 
 // The manual, volume 1, appendix B: each condition where one flag is set and the others are clear, or one is unknown.
@@ -84,16 +124,4 @@ fn conditions_by_what_is_known_of_flags(rt: HostRuntime) {
             "condition {condition}"
         );
     }
-}
-
-#[test]
-fn expansions_of_one_pair_of_two_and_of_a_cause(rt: HostRuntime) -> Result<(), NoMemory> {
-    let alloc = rt.alloc();
-    let one = Expansion::lands(alloc, 8, with_eax(5))?;
-    assert!(rt; one.next().len() == 1 && one.next()[0].0 == 8 && one.causes().is_empty());
-    let two = Expansion::forks(alloc, 8, 4, with_eax(5))?;
-    assert!(rt; two.next().len() == 2 && two.next()[0].0 == 8 && two.next()[1].0 == 4);
-    let cause: Expansion<FlatNumbers> = Expansion::caused(alloc, flow_log::Cause::Bytes)?;
-    assert!(rt; cause.next().is_empty() && cause.causes().len() == 1 && cause.writes().is_empty());
-    Ok(())
 }

@@ -1,13 +1,14 @@
 -- The regions of memory and the offsets of their bytes.
 use Rattle.std.specs.Prelude.{ℤ, pos, neg_ℤ, ◌-ℤ◌, Bool, true, false, ◌&&◌, nat_le, int_le, int_lt, Option, Some, None, if◌then◌else◌}
+use Rattle.memory_map.specs.Start.{STACK_BELOW, STACK_ABOVE, BASE_REACH}
 use Rattle.address_regions.specs.declared.region.Region.{Region}
 use Rattle.address_regions.specs.declared.region.Region.TheVariants.{Stack, Fs, Gs, Block}
 
 -- the offsets of a region's bytes from its base: from the first number on, and below the second
 abbrev pub extent_of : Region → ℤ × ℤ
-extent_of Stack = (neg_ℤ (pos 1048576), pos 4096)
-extent_of Fs = (neg_ℤ (pos 4096), pos 4096)
-extent_of Gs = (neg_ℤ (pos 4096), pos 4096)
+extent_of Stack = (neg_ℤ (pos STACK_BELOW), pos STACK_ABOVE)
+extent_of Fs = (neg_ℤ (pos BASE_REACH), pos BASE_REACH)
+extent_of Gs = (neg_ℤ (pos BASE_REACH), pos BASE_REACH)
 extent_of (Block site size zeroed) = (pos 0, pos size)
 
 abbrev pub low_of : Region → ℤ

@@ -3,6 +3,8 @@ use Rattle.std.specs.Prelude.{ℕ, ◌%◌, ◌^◌, ◌≡◌, ◌≤◌, ℤ, 
 use Rattle.std.specs.Int.{int_rem_euclid}
 use Rattle.address_regions.specs.declared.region.Region.{Region}
 use Rattle.address_regions.specs.declared.region.Region.TheVariants.{Stack, Fs, Gs, Block}
+use Rattle.memory_map.specs.Alignment.{IsAlignment}
+use Rattle.memory_map.specs.Range.{USER_LOW, USER_END}
 use Rattle.address_regions.specs.Extents.{low_of, high_of}
 
 -- the alignment of the stack, the bases of the three windows, and the bases of the blocks, each with its region
@@ -24,17 +26,10 @@ HasBase p (Block site size zeroed) b = Contains p.blocks (Block site size zeroed
 abbrev pub place_at : ℕ → ℤ → ℕ
 place_at b o = unsigned_abs (int_rem_euclid (pos b +ℤ o) (pos (2 ^ 32)))
 
--- a power of two from 4 to 4,096
-pub record IsAlignment (n : ℕ) : Type 0 where
-  pub log : ℕ
-  pub least : 2 ≤ log
-  pub greatest : log ≤ 12
-  pub power : n ≡ 2 ^ log
-
--- the extent at a base lies in [4096, 0xF0000000)
+-- the extent at a base lies where a program's memory may
 pub record IsAllowed (r : Region) (b : ℕ) : Type 0 where
-  pub low : pos 4096 ≤ℤ (pos b +ℤ low_of r)
-  pub high : (pos b +ℤ high_of r) ≤ℤ pos 0xF0000000
+  pub low : pos USER_LOW ≤ℤ (pos b +ℤ low_of r)
+  pub high : (pos b +ℤ high_of r) ≤ℤ pos USER_END
 
 -- the places that a run can have
 pub record IsValid (p : Places) : Type 0 where

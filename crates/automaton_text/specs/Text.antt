@@ -1,7 +1,8 @@
 -- The text of an automaton, version 1: lines of ASCII, each ended by one byte 0A.
 use Rattle.std.specs.Prelude.{ℕ, List, [], ◌∷◌, ◌++◌, length, Option, None, Some, codes, decimal, flat_map, if◌then◌else◌, ◌==◌, All}
 use Rattle.memory_map.specs.Image.{EXIT_PLACE}
-use Rattle.outside_io.specs.Hex.{hex8, hex_text}
+use Rattle.text_fields.specs.Hex.{hex8, hex_text}
+use Rattle.text_fields.specs.Line.{newline, space}
 use Rattle.x86_syntax.specs.Spelling.{spelled}
 use Rattle.x86_syntax.specs.Text.{instr_text}
 use Rattle.x86_decoder.specs.Refusals.{IsSpelling}
@@ -14,12 +15,6 @@ use Rattle.flow_log.specs.declared.edge.Label.TheVariants.{Code, Import}
 use Rattle.automaton_text.specs.declared.automaton.Location.{Location}
 use Rattle.automaton_text.specs.declared.automaton.OpenMark.{OpenMark}
 use Rattle.automaton_text.specs.declared.automaton.Automaton.{Automaton}
-
-abbrev pub newline : List ℕ
-newline = 10 ∷ []
-
-abbrev pub space : List ℕ
-space = 32 ∷ []
 
 abbrev pub header_line : List ℕ
 header_line = codes "jakstab-automaton 1" ++ newline

@@ -2,8 +2,8 @@ ghost use Rattle.std.specs.Prelude.{◌≡◌};
 ghost use Rattle.flow_log.specs.Ordered.{ordered_set};
 ghost use Rattle.automaton_text.specs.Orders.{mark_cmp};
 
-use flow_log::{Cause, Edge, Items, sorted_set};
-use memory_map::Name;
+use flow_log::{Cause, Edge, sorted_set};
+use memory_map::{Items, Name};
 
 /// An address at which a run may stand, and the import's name where it is the place of one.
 #[derive(Drop)]

@@ -1,5 +1,5 @@
 // The control-flow automaton and its text.
-// It stands on flow_log, memory_map, outside_io and x86_decoder.
+// It stands on flow_log, memory_map, text_fields and x86_decoder.
 // Its contract: `print_automaton` gives exactly the text that `specs/Text.antt` defines.
 #![tactic(auto)]
 

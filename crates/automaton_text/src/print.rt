@@ -5,15 +5,17 @@ ghost use Rattle.x86_decoder.specs.Refusals.{IsSpelling};
 use crate::{Automaton, Location, OpenMark};
 use bit_words::NoMemory;
 use flow_log::{Cause, Edge, Label};
-use outside_io::{push_bytes, push_decimal, push_hex_bytes, push_hex8};
+use memory_map::USER_END;
 use std::alloc::Global;
+use text_fields::{push_bytes, push_decimal, push_hex_bytes, push_hex8};
 use x86_decoder::decode;
 use x86_syntax::write_instr;
 
 /// The address at which a run has exited.
-const EXIT_PLACE: u32 = 0xF000_0000;
+const EXIT_PLACE: u32 = USER_END;
 
-/// The text of an automaton.
+/// The text of an automaton, version 1: a line for each location, edge and open mark in the order that they stand in, and
+/// their counts. Only want of memory refuses.
 #[tactic(auto, unfolding(crate::specs::Text::text_of), using(std::proofs::Common::append_assoc))]
 pub fn print_automaton(alloc: Global, a: &Automaton) -> Result<Vec<u8>, NoMemory>
     requires { AreSpelled a.now.edges }

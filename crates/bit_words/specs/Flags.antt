@@ -50,11 +50,27 @@ abbrev pub direction_of : Flags → Bool
 direction_of f = bit_and f.0 64 == 64
 
 abbrev pub unpacked : Flags → FlagBits
-unpacked f = record { carry = carry_of f; parity = parity_of f; adjust = adjust_of f; zero = zero_of f; sign = sign_of f; overflow = overflow_of f; direction = direction_of f }
+unpacked f = record {
+  carry = carry_of f;
+  parity = parity_of f;
+  adjust = adjust_of f;
+  zero = zero_of f;
+  sign = sign_of f;
+  overflow = overflow_of f;
+  direction = direction_of f;
+}
 
 -- the flags f, with those that `which` has taken from g
 abbrev pub replaced : FlagBits → FlagBits → FlagBits → FlagBits
-replaced f which g = record { carry = if which.carry then g.carry else f.carry; parity = if which.parity then g.parity else f.parity; adjust = if which.adjust then g.adjust else f.adjust; zero = if which.zero then g.zero else f.zero; sign = if which.sign then g.sign else f.sign; overflow = if which.overflow then g.overflow else f.overflow; direction = if which.direction then g.direction else f.direction }
+replaced f which g = record {
+  carry = if which.carry then g.carry else f.carry;
+  parity = if which.parity then g.parity else f.parity;
+  adjust = if which.adjust then g.adjust else f.adjust;
+  zero = if which.zero then g.zero else f.zero;
+  sign = if which.sign then g.sign else f.sign;
+  overflow = if which.overflow then g.overflow else f.overflow;
+  direction = if which.direction then g.direction else f.direction;
+}
 
 -- ---- the rules
 
@@ -68,7 +84,15 @@ has_sign w r = nat_le (2 ^ (bits_of w - 1)) r
 
 -- PF, ZF and SF by a result that fits the width, the others as given, DF clear
 abbrev pub flags_by : Width → ℕ → Bool → Bool → Bool → FlagBits
-flags_by w r carry adjust overflow = record { carry = carry; parity = has_even_parity r; adjust = adjust; zero = r == 0; sign = has_sign w r; overflow = overflow; direction = false }
+flags_by w r carry adjust overflow = record {
+  carry = carry;
+  parity = has_even_parity r;
+  adjust = adjust;
+  zero = r == 0;
+  sign = has_sign w r;
+  overflow = overflow;
+  direction = false;
+}
 
 -- the sum of two words and a carry
 abbrev pub sum_of : Width → ℕ → ℕ → Bool → ℕ
@@ -76,11 +100,15 @@ sum_of w a b c = cut w (cut w a + cut w b + one_if c)
 
 -- ADD and ADC: CF the carry out of the top bit, AF that out of bit 3, OF where the sum of the signed numbers is none of the width
 unfoldable pub sum_flags : Width → ℕ → ℕ → Bool → FlagBits
-sum_flags w a b c =
-    flags_by w (sum_of w a b c)
-    (nat_le (2 ^ bits_of w) (cut w a + cut w b + one_if c))
-    (nat_le 16 (a % 16 + b % 16 + one_if c))
-    (not (is_signed w (signed_of w a +ℤ signed_of w b +ℤ pos (one_if c))))
+sum_flags w a b c = record {
+  carry = nat_le (2 ^ bits_of w) (cut w a + cut w b + one_if c);
+  parity = has_even_parity (sum_of w a b c);
+  adjust = nat_le 16 (a % 16 + b % 16 + one_if c);
+  zero = sum_of w a b c == 0;
+  sign = has_sign w (sum_of w a b c);
+  overflow = not (is_signed w (signed_of w a +ℤ signed_of w b +ℤ pos (one_if c)));
+  direction = false;
+}
 
 -- the difference of two words and a borrow
 abbrev pub difference_of : Width → ℕ → ℕ → Bool → ℕ
@@ -88,11 +116,15 @@ difference_of w a b c = cut w (cut w a + (2 ^ bits_of w - (cut w b + one_if c)))
 
 -- SUB, SBB and CMP: CF the borrow into the top bit, AF that into bit 3, OF where the difference of the signed numbers is none of the width
 unfoldable pub difference_flags : Width → ℕ → ℕ → Bool → FlagBits
-difference_flags w a b c =
-    flags_by w (difference_of w a b c)
-    (nat_lt (cut w a) (cut w b + one_if c))
-    (nat_lt (a % 16) (b % 16 + one_if c))
-    (not (is_signed w (signed_of w a -ℤ signed_of w b -ℤ pos (one_if c))))
+difference_flags w a b c = record {
+  carry = nat_lt (cut w a) (cut w b + one_if c);
+  parity = has_even_parity (difference_of w a b c);
+  adjust = nat_lt (a % 16) (b % 16 + one_if c);
+  zero = difference_of w a b c == 0;
+  sign = has_sign w (difference_of w a b c);
+  overflow = not (is_signed w (signed_of w a -ℤ signed_of w b -ℤ pos (one_if c)));
+  direction = false;
+}
 
 -- AND, OR, XOR and TEST: CF and OF clear, AF clear
 unfoldable pub logic_flags : Width → ℕ → FlagBits

@@ -276,5 +276,6 @@ bounded-lawful = record {
   up_to_names = λ v c s e. e;
   raise_names = raise-named;
   eval_number = λ op w a b align n e. shared-number Number a b (by_places op w a b align) bounded_number_of op w n (λ k. refl) (by_places-number op w a b align n) e;
+  up_to_number = λ v c n e. inl e;
   raise_number = raise-number;
 }

@@ -12,7 +12,9 @@ use Rattle.bit_words.specs.declared.width.Width.TheVariants.{B32}
 use Rattle.bit_words.specs.Width.{cut, modulo, word_of}
 use Rattle.bit_words.specs.Operators.{apply_op, formula, one_if}
 use Rattle.bit_words.proofs.Laws.{and-high_mask, apply-Eq}
-use Rattle.address_regions.specs.Places.{place_at, IsAlignment}
+use Rattle.memory_map.specs.Alignment.{IsAlignment}
+use Rattle.memory_map.proofs.Alignments.{alignment_power}
+use Rattle.address_regions.specs.Places.{place_at}
 use Rattle.address_regions.proofs.PlaceLaws.{residue, residue-add, place_at-lt, place_at-wrapped, place_at-add, place_at-sub}
 use Rattle.bounded_values.specs.Rules.{offset_up, offset_down, rounded_down, unit_of, is_stack_mask, is_outside}
 use Rattle.bounded_values.specs.RoundingLaws.{power_of, residue-mod, modulo-multiple}
@@ -88,7 +90,8 @@ mask_tells : (n align : ℕ) → is_stack_mask n align ≡ true → (is_power_of
 mask_tells n align e = grind (arith, nat_tests, common_steps)
 
 stack_mask : (n align : ℕ) → n < 2 ^ 32 → IsAlignment align → is_stack_mask n align ≡ true → IsMask n align
-stack_mask n align h a e =
+stack_mask n align h is e =
+    let a = alignment_power align is in
     let (one, most) = mask_tells n align e in
     let (j, below, power) = power_of (unit_of n) one (omega arith) in
     let positive = pow_pos j in

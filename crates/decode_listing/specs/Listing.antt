@@ -1,20 +1,15 @@
 -- The listing of an image's instructions, version 1: lines of ASCII, each ended by one byte 0A.
 use Rattle.std.specs.Prelude.{ℕ, zero, suc, ◌≡◌, ◌⊎◌, List, [], ◌∷◌, ◌++◌, length, take, Option, None, Some, codes, decimal}
-use Rattle.memory_map.specs.Range.{code_at, run_of}
+use Rattle.memory_map.specs.Range.{code_run}
 use Rattle.memory_map.specs.Image.{Image}
-use Rattle.outside_io.specs.Hex.{hex8, hex_text}
+use Rattle.text_fields.specs.Hex.{hex8, hex_text}
+use Rattle.text_fields.specs.Line.{newline, space}
 use Rattle.x86_syntax.specs.declared.instr.Instr.{Instr}
 use Rattle.x86_syntax.specs.Decodes.{Decodes, decoded}
 use Rattle.x86_syntax.specs.Text.{instr_text, next_address}
 use Rattle.x86_decoder.specs.declared.fault.DecodeFault.{DecodeFault}
 use Rattle.x86_decoder.specs.declared.fault.DecodeFault.TheVariants.{NotListed, Truncated, TooLong}
 use Rattle.x86_decoder.specs.Refusals.{Refused}
-
-abbrev pub newline : List ℕ
-newline = 10 ∷ []
-
-abbrev pub space : List ℕ
-space = 32 ∷ []
 
 abbrev pub header_line : List ℕ
 header_line = codes "jakstab-decode 1" ++ newline
@@ -23,9 +18,9 @@ header_line = codes "jakstab-decode 1" ++ newline
 abbrev pub end_line : ℕ → List ℕ
 end_line n = codes "end " ++ decimal n ++ newline
 
--- the executable bytes from an address on, one after another, as many as an instruction may have (manual, volume 2, section 2.3.11)
+-- the image's executable bytes from an address on
 abbrev pub code_from : Image → ℕ → List ℕ
-code_from image at = run_of (code_at image.segments) 15 at
+code_from image at = code_run image.segments at
 
 -- an instruction's address, its bytes and its text
 unfoldable pub instruction_line : ℕ → List ℕ → Instr → List ℕ

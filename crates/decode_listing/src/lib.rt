@@ -1,5 +1,5 @@
 // The listing of the instructions that stand one after another in an image's executable bytes.
-// It stands on image_loader, x86_decoder and outside_io.
+// It stands on image_loader, x86_decoder and text_fields.
 // Its contract: `print_listing` gives exactly a text that `specs/Listing.antt` defines, of which there is one alone.
 #![tactic(auto)]
 

@@ -4,12 +4,13 @@ ghost use Rattle.decode_listing.specs.Listing.{AreAppended, IsAppended, IsListin
 
 use bit_words::NoMemory;
 use image_loader::Image;
-use outside_io::{push_bytes, push_decimal, push_hex_bytes, push_hex8};
 use std::alloc::Global;
+use text_fields::{push_bytes, push_decimal, push_hex_bytes, push_hex8};
 use x86_decoder::{DecodeFault, decode};
 use x86_syntax::{Instr, write_instr};
 
 /// The listing of at most `count` instructions of an image from `address` on, up to the first place where none stands.
+/// Only want of memory refuses.
 pub fn print_listing(
     alloc: Global,
     image: &Image,

@@ -1,5 +1,5 @@
 -- The plainest domain keeps every law.
-use Rattle.std.proofs.Common.{◌≡◌, ℕ, true, refl, arith, Some, None}
+use Rattle.std.proofs.Common.{◌≡◌, ℕ, true, refl, arith, Some, None, inl}
 use Rattle.std.proofs.lemmas.Bool.Decides.{nat_tests}
 use Rattle.std.proofs.lemmas.Grind.{common_steps}
 use Rattle.address_regions.specs.Places.{Places}
@@ -100,5 +100,6 @@ flat-lawful = record {
   up_to_names = λ v c s e. e;
   raise_names = λ v s e. absurd (cc);
   eval_number = λ op w a b align n e. shared-number Number a b Any flat_number_of op w n (λ k. refl) (λ f. absurd (cc)) e;
+  up_to_number = λ v c n e. inl e;
   raise_number = λ v. refl;
 }

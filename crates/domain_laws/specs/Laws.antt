@@ -73,4 +73,5 @@ pub record IsLawful {D : Type 0} (d : Values D) : Type 0 where
   pub raise_names : (v : D) (s : Region) → named (d.reach (d.raise v)) ≡ Some s → named (d.reach v) ≡ Some s
   -- where a number is told of a result
   pub eval_number : (op : Op) (w : Width) (a b : D) (align n : ℕ) → d.number_of (d.eval op w a b align) ≡ Some n → IsValueOf op w n
+  pub up_to_number : (v : D) (c n : ℕ) → d.number_of (d.up_to v c) ≡ Some n → (d.number_of v ≡ Some n) ⊎ (n ≤ c)
   pub raise_number : (v : D) → d.number_of (d.raise v) ≡ None

@@ -8,7 +8,8 @@ use Rattle.std.proofs.lemmas.List.{length-append}
 use Rattle.memory_map.specs.Range.{Range}
 use Rattle.memory_map.proofs.Faults.{and-parts}
 use Rattle.file_pieces.specs.Found.{is_in_one}
-use Rattle.file_pieces.specs.Names.{MOST_NAMES, index_of, is_named, with_name}
+use Rattle.memory_map.specs.Name.{MOST_NAMES}
+use Rattle.file_pieces.specs.Names.{index_of, is_named, with_name}
 use Rattle.file_pieces.proofs.NameLists.{list_all-push, with_name-old, with_name-new}
 use Rattle.elf32_reader.specs.declared.fault.ElfFault.{ElfFault}
 use Rattle.elf32_reader.specs.declared.entry.Entry.{Entry}

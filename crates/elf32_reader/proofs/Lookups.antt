@@ -3,7 +3,8 @@ use Rattle.std.proofs.Common.{ℕ, ◌≡◌, ◌≢◌, ◌-◌, List, length, 
 use Rattle.std.specs.Prelude.{find}
 use Rattle.std.proofs.lemmas.List.{length-take, length-drop}
 use Rattle.memory_map.specs.Range.{Range}
-use Rattle.file_pieces.specs.Found.{bytes_at, holds}
+use Rattle.memory_map.specs.Range.{holds}
+use Rattle.file_pieces.specs.Found.{bytes_at}
 use Rattle.file_pieces.proofs.Lookups.{bytes_at-found, bytes_at-none, held}
 
 pub length-bytes_at : (ranges : List Range) (a n : ℕ) (bytes : List ℕ) → n ≢ 0 → bytes_at ranges a n ≡ Some bytes → length bytes ≡ n

@@ -5,7 +5,8 @@ use Rattle.std.specs.List.{range_with_len}
 use Rattle.std.proofs.lemmas.Bool.{leb-true}
 use Rattle.std.proofs.lemmas.List.{length-append}
 use Rattle.std.proofs.lemmas.List.Sums.{fold-append}
-use Rattle.file_pieces.specs.Names.{MOST_NAMES, index_of, is_named, with_name}
+use Rattle.memory_map.specs.Name.{MOST_NAMES}
+use Rattle.file_pieces.specs.Names.{index_of, is_named, with_name}
 use Rattle.file_pieces.proofs.NameLists.{with_name-new}
 use Rattle.elf32_reader.specs.declared.fault.ElfFault.{ElfFault}
 use Rattle.elf32_reader.specs.declared.entry.Entry.{Entry}

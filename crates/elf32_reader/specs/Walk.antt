@@ -2,7 +2,8 @@
 use Rattle.std.specs.Prelude.{ℕ, ◌+◌, ◌/◌, List, [], ◌∷◌, ◌++◌, length, map, fold, not, ◌&&◌, ◌==◌, nat_le, unwrap_or, if◌then◌else◌, Option, Some, None, Result, Ok, Err}
 use Rattle.std.specs.List.{range_with_len}
 use Rattle.file_pieces.specs.Found.{is_in_one}
-use Rattle.file_pieces.specs.Names.{MOST_NAMES, index_of, is_named, with_name}
+use Rattle.memory_map.specs.Name.{MOST_NAMES}
+use Rattle.file_pieces.specs.Names.{index_of, is_named, with_name}
 use Rattle.elf32_reader.specs.declared.fault.ElfFault.{ElfFault}
 use Rattle.elf32_reader.specs.declared.fault.ElfFault.TheVariants.{Dynamic, RelocOutside, Name, ManyImports}
 use Rattle.elf32_reader.specs.declared.entry.Entry.{Entry}

@@ -3,9 +3,9 @@ ghost use Rattle.std.specs.List.{list_all};
 ghost use Rattle.memory_map.specs.Map.{range_of};
 ghost use Rattle.elf32_reader.specs.Relocations.{has_name_below, is_inside};
 
-use crate::Relocs;
+use crate::ElfReloc;
 use file_pieces::Names;
-use memory_map::Segments;
+use memory_map::{Items, Segments};
 
 /// What a 32-bit ELF file for the Intel386 lays out (System V ABI, chapters 4 and 5).
 #[derive(Drop)]
@@ -18,8 +18,8 @@ pub struct ElfFile {
     pub entry: u32,
     /// The segments before any relocation.
     pub segments: Segments,
-    /// The relocations that do anything.
-    pub relocs: Relocs,
+    /// The relocations that do anything, in the order in which they are applied.
+    pub relocs: Items<ElfReloc>,
     /// The names that these import, in the order in which they are first seen.
     pub names: Names,
     // What each relocation changes lies in one segment, and the name that it imports is one of the names.

@@ -20,7 +20,8 @@ fn is_short(file: &[u8]) -> bool
     file.len() < FILE_HEADER_SIZE
 }
 
-fn has_elf_magic(file: &[u8]) -> bool
+/// Whether a file begins with 7F, `ELF`.
+pub fn has_elf_magic(file: &[u8]) -> bool
     ensures { result ≡ has_elf_magic file.now }
 {
     file.starts_with(b"\x7FELF")

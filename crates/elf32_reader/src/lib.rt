@@ -20,8 +20,9 @@ mod walk;
 
 pub use elf_file::ElfFile;
 pub use fault::ElfFault;
+pub use header::has_elf_magic;
 pub use reader::read_elf;
-pub use reloc::{ElfReloc, RelocSymbol, Relocs};
+pub use reloc::{ElfReloc, RelocSymbol};
 
 #[cfg(test)]
 mod tests;

@@ -16,8 +16,8 @@ use crate::program_header::{ProgramHeader, headers};
 use crate::segments::segments_of;
 use crate::tables::Tables;
 use crate::walk::{Walk, walk_all};
-use crate::{ElfFault, ElfFile, Relocs};
-use memory_map::Segments;
+use crate::{ElfFault, ElfFile};
+use memory_map::{Items, Segments};
 use std::alloc::Global;
 
 // The relocations and their names, where the tables are as they must be.
@@ -55,7 +55,7 @@ fn lay_out(alloc: Global, file: &[u8], mapped: Segments, given: Tables) -> Resul
         bias: bias_of(file),
         entry: entry_of(file),
         segments: mapped,
-        relocs: Relocs::from_vec(relocs),
+        relocs: Items::from_vec(relocs),
         names,
     })
 }

@@ -1,7 +1,3 @@
-ghost use Rattle.std.specs.Prelude.{◌≡◌};
-
-use std::marker::Model;
-
 /// What the symbol of a relocation stands for.
 #[derive(Clone, Copy)]
 pub enum RelocSymbol {
@@ -24,42 +20,4 @@ pub struct ElfReloc {
     pub adds: bool,
     pub plus: u32,
     pub symbol: RelocSymbol,
-}
-
-/// Relocations in the order in which they are applied, which contracts see as a list.
-#[derive(Drop)]
-pub struct Relocs {
-    held: Vec<ElfReloc>,
-}
-
-impl Model for Relocs {
-    ghost use Rattle.std.specs.Prelude.{List};
-    ghost use Rattle.elf32_reader.specs.declared.reloc.ElfReloc.{ElfReloc};
-
-    ghost Value = { List ElfReloc };
-
-    ghost view = { λ r. r.held.items };
-}
-
-impl Relocs {
-    /// The relocations of a vector; takes no memory.
-    pub fn from_vec(held: Vec<ElfReloc>) -> Relocs
-        ensures { result ≡ held.items }
-    {
-        Relocs { held }
-    }
-
-    /// The vector again; takes no memory.
-    pub fn into_vec(self) -> Vec<ElfReloc>
-        ensures { result.items ≡ self }
-    {
-        self.held
-    }
-
-    /// The relocations, in order.
-    pub fn as_slice(&self) -> &[ElfReloc]
-        ensures { result.now ≡ self.now }
-    {
-        self.held.as_slice()
-    }
 }

@@ -2,8 +2,7 @@ ghost use Rattle.std.specs.Prelude.{◌≤◌};
 
 use super::*;
 use demo_images::{Import, form_d};
-use file_pieces::MOST_NAMES;
-use memory_map::Perm;
+use memory_map::{MOST_NAMES, Perm};
 use std::alloc::{AllocError, Global};
 use std::process::Abort;
 use std::test::Fail;

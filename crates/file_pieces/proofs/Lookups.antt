@@ -6,7 +6,8 @@ use Rattle.std.specs.List.{list_any}
 use Rattle.std.proofs.lemmas.Bool.{leb-true}
 use Rattle.memory_map.specs.Range.{Range, end_of}
 use Rattle.memory_map.proofs.Faults.{and-parts}
-use Rattle.file_pieces.specs.Found.{IsHeld, holds, is_in_one, bytes_at, rest_at}
+use Rattle.memory_map.specs.Range.{holds}
+use Rattle.file_pieces.specs.Found.{IsHeld, is_in_one, bytes_at, rest_at}
 use Rattle.file_pieces.proofs.Texts.{not_zero}
 
 pub is_some-find : {X : Type 0} (p : X → Bool) (xs : List X) → is_some (find p xs) ≡ list_any p xs

@@ -6,7 +6,8 @@ use Rattle.std.specs.Cmp.Lexicographic.{pointwise}
 use Rattle.std.proofs.lemmas.Bool.{ltb-true}
 use Rattle.std.proofs.lemmas.List.{length-append, length-map, map-append}
 use Rattle.memory_map.specs.Name.{is_name}
-use Rattle.file_pieces.specs.Names.{AreNames, index_of, is_named, with_name, MOST_NAMES}
+use Rattle.memory_map.specs.Name.{MOST_NAMES}
+use Rattle.file_pieces.specs.Names.{AreNames, index_of, is_named, with_name}
 
 pub with_name-old : (names : List (List ℕ)) (name : List ℕ) → is_named names name ≡ true → with_name names name ≡ names
 unfolding with_name

@@ -2,18 +2,14 @@
 use Rattle.std.specs.Prelude.{ℕ, ◌≤◌, ◌+◌, ◌-◌, ◌==◌, Bool, List, [], ◌∷◌, not, ◌&&◌, ◌||◌, nat_le, nat_lt, find, take, drop, Option, Some, None, if◌then◌else◌, option_and_then}
 use Rattle.std.specs.List.{list_any}
 use Rattle.std.specs.Option.{option_map, option_map_or}
-use Rattle.memory_map.specs.Range.{Range, end_of}
+use Rattle.memory_map.specs.Range.{Range, end_of, holds}
 use Rattle.memory_map.specs.Name.{is_name}
 
 -- whether a range of file bytes passes the end of a file that has so many
 abbrev pub passes_end : ℕ → ℕ → ℕ → Bool
 passes_end total offset size = not (size == 0) && nat_lt total (offset + size)
 
--- whether the n addresses from one on are all in a range
-abbrev pub holds : ℕ → ℕ → Range → Bool
-holds a n r = nat_le r.low a && nat_le (a + n) (end_of r)
-
--- the same as a fact
+-- the n addresses from one on are all in a range
 pub record IsHeld (a n : ℕ) (r : Range) : Type 0 where
   pub above : r.low ≤ a
   pub below : a + n ≤ end_of r

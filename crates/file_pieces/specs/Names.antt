@@ -1,12 +1,8 @@
 -- The imported names of a file, in the order in which they are first seen, each once.
 use Rattle.std.specs.Prelude.{◌≡◌, ◌≤◌, length, true, ℕ, Bool, List, [], ◌∷◌, ◌++◌, if◌then◌else◌, nat_eq}
 use Rattle.std.specs.List.{list_all, list_any, position_or_len}
-use Rattle.memory_map.specs.Name.{is_name}
+use Rattle.memory_map.specs.Name.{MOST_NAMES, is_name}
 use Rattle.std.specs.Cmp.Lexicographic.{pointwise}
-
--- the most names
-abbrev pub MOST_NAMES : ℕ
-MOST_NAMES = 65535
 
 -- whether a name is among others
 unfoldable pub is_named : List (List ℕ) → List ℕ → Bool

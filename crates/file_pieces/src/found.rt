@@ -3,7 +3,8 @@ ghost use Rattle.std.specs.List.{list_all};
 ghost use Rattle.std.specs.Option.{option_map};
 ghost use Rattle.memory_map.specs.Map.{range_of};
 ghost use Rattle.memory_map.specs.Name.{is_name, is_name_byte};
-ghost use Rattle.file_pieces.specs.Found.{bytes_at, holds, is_in_one, name_at, passes_end, rest_at, text_of, IsHeld};
+ghost use Rattle.memory_map.specs.Range.{holds};
+ghost use Rattle.file_pieces.specs.Found.{bytes_at, is_in_one, name_at, passes_end, rest_at, text_of, IsHeld};
 
 use memory_map::{LONGEST_NAME, Segment, Segments};
 

@@ -8,7 +8,7 @@ mod names;
 mod piece;
 
 pub use found::{bytes_at, is_in_one, name_at, passes_end};
-pub use names::{MOST_NAMES, NameFault, Names, SeenNames};
+pub use names::{NameFault, Names, SeenNames};
 pub use piece::{Piece, map_pieces};
 
 #[cfg(test)]

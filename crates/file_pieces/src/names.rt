@@ -1,15 +1,12 @@
 ghost use Rattle.std.specs.Prelude.{◌≡◌, ◌⊎◌, ◌<◌, ◌≤◌, [], false, true, map, length, IfOk, IsTrue, MatchResult};
 ghost use Rattle.std.specs.List.{list_all};
-ghost use Rattle.memory_map.specs.Name.{is_name};
-ghost use Rattle.file_pieces.specs.Names.{MOST_NAMES, index_of, is_named, with_name};
+ghost use Rattle.memory_map.specs.Name.{MOST_NAMES, is_name};
+ghost use Rattle.file_pieces.specs.Names.{index_of, is_named, with_name};
 
 use indexmap::IndexSet;
-use memory_map::Name;
+use memory_map::{MOST_NAMES, Name};
 use std::alloc::{AllocError, AllocFailed, Global};
 use std::marker::Model;
-
-/// The most names that a file may import.
-pub const MOST_NAMES: usize = 65_535;
 
 /// Names of imports, at most 65,535, which contracts see as a list.
 #[derive(Drop)]
@@ -19,7 +16,7 @@ pub struct Names {
 
 impl Model for Names {
     ghost use Rattle.std.specs.Prelude.{List, ℕ, ◌≤◌, length};
-    ghost use Rattle.file_pieces.specs.Names.{MOST_NAMES};
+    ghost use Rattle.memory_map.specs.Name.{MOST_NAMES};
 
     ghost Value = { List (List ℕ) };
 
@@ -35,6 +32,14 @@ impl Names {
         ensures few { length self.now ≤ MOST_NAMES }
     {
         self.held.as_slice()
+    }
+
+    /// The vector again; takes no memory.
+    pub fn into_vec(self) -> Vec<Name>
+        ensures names { result.items ≡ self }
+        ensures few { length self ≤ MOST_NAMES }
+    {
+        self.held
     }
 
     /// How many there are.

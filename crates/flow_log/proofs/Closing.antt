@@ -1,81 +1,98 @@
--- The log of an exploration is closed.
-use Rattle.std.proofs.Common.{◌≡◌, ℕ, zero, suc, ◌+◌, ◌<◌, ◌≤◌, Bool, true, false, List, [], ◌∷◌, ◌++◌, length, map, refl, sym, ◌∙◌, ap, subst, inl, inr, arith, cond, Option, Some, None, length-append, add-zero, get_or}
-use Rattle.std.specs.Prelude.{Contains, slice_get, nat_lt}
-use Rattle.std.specs.List.{list_any}
-use Rattle.std.proofs.lemmas.List.Elements.{Contains-append_right, Contains-append_left, Contains-push}
+-- The log of an exploration is closed, and its rows are well.
+use Rattle.std.proofs.Common.{◌≡◌, ℕ, zero, suc, ◌+◌, ◌<◌, ◌≤◌, Bool, true, false, not, List, [], ◌∷◌, ◌++◌, length, map, refl, sym, ◌∙◌, ap, subst, inl, inr, arith, cond, Option, Some, None, length-append, add-zero, get_or}
+use Rattle.std.specs.Prelude.{Contains, All, slice_get, nat_lt, filter, filter_map, flat_map, option_map}
+use Rattle.std.specs.List.{list_any, enumerate_from}
+use Rattle.std.proofs.lemmas.List.Elements.{Contains-append_right, Contains-append_left, Contains-push, All-map, All-push, All-nil, All-contains}
 use Rattle.std.proofs.lemmas.Option.{slice_get_within, slice_get-get_or}
 use Rattle.std.proofs.Math.Nat.{eq-or-lt_of_le}
 use Rattle.flow_log.specs.Analysis.{Analysis}
-use Rattle.flow_log.specs.Log.{Row, Log, states_at, row_after, with_row, with_pair, with_pairs, with_notes, with_expansion, at_row, explored, first_log, log_of}
-use Rattle.flow_log.specs.Sound.{IsRepresented, IsDone, IsClosed}
-use Rattle.flow_log.proofs.Members.{Contains-map, Contains-cases, Contains-none, row_of_any, slice_get-append_back, Contains-slice_get, slice_get-last, lt_or_le}
-use Rattle.flow_log.proofs.Growing.{Grows, row_kept, writes_kept, IsRepresented-grows, IsDone-grows, with_pairs-grows, with_expansion-grows, explored-grows}
+use Rattle.flow_log.specs.Log.{Row, Log, pair_of, states_at, row_after, with_row, with_next_pair, with_next_pairs, with_notes, with_expansion, at_row, explored, first_log, log_of}
+use Rattle.flow_log.specs.Log.{Mark, mark_of, location_marks, expansion_mark, unexpanded_marks, marks_by, marks_of, IsOpen}
+use Rattle.flow_log.specs.Run.{Machine}
+use Rattle.flow_log.specs.Sound.{Sound, IsRepresented, IsDone, IsClosed}
+use Rattle.flow_log.proofs.Members.{Contains-map, Contains-flat_map, Contains-filter, Contains-filter_map, Contains-cases, Contains-here, Contains-later, Contains-none, Contains-numbered, IsMappedAt, mapped_at, position_of, row_of_any, slice_get-append_back, Contains-slice_get, slice_get-last, lt_or_le}
+use Rattle.flow_log.proofs.Growing.{Grows, row_kept, in_rows_kept, edges_kept, causes_kept, writes_kept, with_next_pairs-grows, with_expansion-grows, explored-grows}
+
+module _ {S E C W : Type 0} (a : Analysis S E C W) where
+  IsRepresented-grows : (x y : Log S E C W) (location : ℕ) (state : S) → Grows x y → IsRepresented a (map pair_of x.rows) location state → IsRepresented a (map pair_of y.rows) location state
+  IsRepresented-grows x y location state g h = record { row = h.row; in_rows = in_rows_kept x y (location, h.row) g h.in_rows; stands = h.stands }
+
+  -- all that the expansion of a row gives is in a log
+  record IsTaken (log : Log S E C W) (number : ℕ) (row : Row S) : Type 0 where
+    edges : (pair : ℕ × S) → Contains (a.expand row.location row.state).next pair → Contains log.edges (a.edge row.location row.state pair.0)
+    next : (pair : ℕ × S) → Contains (a.expand row.location row.state).next pair → IsRepresented a (map pair_of log.rows) pair.0 pair.1
+    causes : (c : C) → Contains (a.expand row.location row.state).causes c → Contains log.causes (number, c)
+    writes : (w : W) → Contains (a.expand row.location row.state).writes w → Contains log.writes w
+
+  IsTaken-grows : (x y : Log S E C W) (number : ℕ) (row : Row S) → Grows x y → IsTaken x number row → IsTaken y number row
+  IsTaken-grows x y number row g h = record {
+    edges = λ pair held. edges_kept x y _ g (h.edges pair held);
+    next = λ pair held. IsRepresented-grows x y pair.0 pair.1 g (h.next pair held);
+    causes = λ c held. causes_kept x y (number, c) g (h.causes c held);
+    writes = λ w held. writes_kept x y w g (h.writes w held);
+  }
 
 module _ {S E C W : Type 0} (a : Analysis S E C W) (budget : ℕ) where
   -- a taken pair has its row
   appended : (parent location : ℕ) (seen : List S) (state : S) (log after : Log S E C W) (r : Bool)
       → list_any (λ t. a.covers t (a.widen seen state)) (states_at location log.rows) ≡ r
-      → after.rows ≡ cond r log.rows (log.rows ++ row_after a budget log.rows (Some parent) location (a.widen seen state) ∷ [])
-      → IsRepresented a after location state
+      → after.rows ≡ cond r log.rows (log.rows ++ row_after budget log.rows (Some parent) location (a.widen seen state) ∷ [])
+      → IsRepresented a (map pair_of after.rows) location state
   appended parent location seen state log after true any e =
       let found = row_of_any (λ t. a.covers t (a.widen seen state)) location log.rows any in
-      let P : List (Row S) → Type 0 = λ rows. Contains rows found.row in
-      record { row = found.row; in_log = subst P (sym e) found.in_rows; located = found.located; seen = seen; stands = inr found.passes }
+      let P : List (Row S) → Type 0 = λ rows. Contains (map pair_of rows) (location, found.row.state) in
+      let Q : ℕ → Type 0 = λ l. Contains (map pair_of log.rows) (l, found.row.state) in
+      record { row = found.row.state; in_rows = subst P (sym e) (subst Q found.located (Contains-map pair_of log.rows found.row found.in_rows)); stands = inr (seen, inr found.passes) }
   appended parent location seen state log after false any e =
-      let row = row_after a budget log.rows (Some parent) location (a.widen seen state) in
-      let P : List (Row S) → Type 0 = λ rows. Contains rows row in
-      record { row = row; in_log = subst P (sym e) (Contains-push log.rows row); located = refl; seen = seen; stands = inl refl }
+      let row = row_after budget log.rows (Some parent) location (a.widen seen state) in
+      let P : List (Row S) → Type 0 = λ rows. Contains (map pair_of rows) (location, row.state) in
+      record { row = row.state; in_rows = subst P (sym e) (Contains-map pair_of (log.rows ++ row ∷ []) row (Contains-push log.rows row)); stands = inr (seen, inl refl) }
 
-  pair_represented : (number : ℕ) (row : Row S) (pair : ℕ × S) (log : Log S E C W) → IsRepresented a (with_pair a budget number row pair log) pair.0 pair.1
+  pair_represented : (number : ℕ) (edge : E) (pair : ℕ × S) (log : Log S E C W)
+      → IsRepresented a (map pair_of (with_next_pair a.covers a.widen budget number edge pair log).rows) pair.0 pair.1
   unfolding with_row
-  pair_represented number row pair log = appended number pair.0 (states_at pair.0 log.rows) pair.1 log (with_pair a budget number row pair log) _ refl refl
+  pair_represented number edge pair log = appended number pair.0 (states_at pair.0 log.rows) pair.1 log (with_next_pair a.covers a.widen budget number edge pair log) _ refl refl
 
-  pairs_represented : (number : ℕ) (row : Row S) (pairs : List (ℕ × S)) (log : Log S E C W) (pair : ℕ × S) → Contains pairs pair
-      → IsRepresented a (with_pairs a budget number row pairs log) pair.0 pair.1
-  unfolding with_pairs
-  pairs_represented number row [] log pair held = absurd (Contains-none pair held)
-  pairs_represented number row (first ∷ pairs) log pair held =
-      let after = with_pair a budget number row first log in
+  pairs_represented : (number : ℕ) (edge_to : ℕ → E) (pairs : List (ℕ × S)) (log : Log S E C W) (pair : ℕ × S) → Contains pairs pair
+      → IsRepresented a (map pair_of (with_next_pairs a.covers a.widen budget number edge_to pairs log).rows) pair.0 pair.1
+  pairs_represented number edge_to [] log pair held = absurd (Contains-none pair held)
+  pairs_represented number edge_to (first ∷ pairs) log pair held =
+      let after = with_next_pair a.covers a.widen budget number (edge_to first.0) first log in
+      let last = with_next_pairs a.covers a.widen budget number edge_to pairs after in
       elim (Contains-cases first pair pairs held) [
-        | inl e ↦ (let P : ℕ × S → Type 0 = λ p. IsRepresented a (with_pairs a budget number row pairs after) p.0 p.1 in
-            subst P e (IsRepresented-grows a after _ first.0 first.1 (with_pairs-grows a budget number row pairs after) (pair_represented number row first log)))
-        | inr h ↦ pairs_represented number row pairs after pair h
+        | inl e ↦ (let P : ℕ × S → Type 0 = λ p. IsRepresented a (map pair_of last.rows) p.0 p.1 in
+            subst P e (IsRepresented-grows a after last first.0 first.1 (with_next_pairs-grows a.covers a.widen budget number edge_to pairs after) (pair_represented number (edge_to first.0) first log)))
+        | inr h ↦ pairs_represented number edge_to pairs after pair h
       ]
 
-  kept_edge : (x y : Log S E C W) (edge : E) → Grows x y → Contains x.edges edge → Contains y.edges edge
-  kept_edge x y edge g held = let P : List E → Type 0 = λ es. Contains es edge in subst P (sym g.edges) (Contains-append_left x.edges g.more_edges edge held)
-
-  kept_cause : (x y : Log S E C W) (noted : ℕ × C) → Grows x y → Contains x.causes noted → Contains y.causes noted
-  kept_cause x y noted g held = let P : List (ℕ × C) → Type 0 = λ cs. Contains cs noted in subst P (sym g.causes) (Contains-append_left x.causes g.more_causes noted held)
-
-  pairs_edges : (number : ℕ) (row : Row S) (pairs : List (ℕ × S)) (log : Log S E C W) (pair : ℕ × S) → Contains pairs pair
-      → Contains (with_pairs a budget number row pairs log).edges (a.edge row.location row.state pair.0)
-  unfolding with_pairs
-  pairs_edges number row [] log pair held = absurd (Contains-none pair held)
-  pairs_edges number row (first ∷ pairs) log pair held =
-      let after = with_pair a budget number row first log in
+  pairs_edges : (number : ℕ) (edge_to : ℕ → E) (pairs : List (ℕ × S)) (log : Log S E C W) (pair : ℕ × S) → Contains pairs pair
+      → Contains (with_next_pairs a.covers a.widen budget number edge_to pairs log).edges (edge_to pair.0)
+  pairs_edges number edge_to [] log pair held = absurd (Contains-none pair held)
+  pairs_edges number edge_to (first ∷ pairs) log pair held =
+      let after = with_next_pair a.covers a.widen budget number (edge_to first.0) first log in
       elim (Contains-cases first pair pairs held) [
-        | inl e ↦ (let P : ℕ × S → Type 0 = λ p. Contains (with_pairs a budget number row pairs after).edges (a.edge row.location row.state p.0) in
-            subst P e (kept_edge after _ _ (with_pairs-grows a budget number row pairs after) (Contains-push log.edges (a.edge row.location row.state first.0))))
-        | inr h ↦ pairs_edges number row pairs after pair h
+        | inl e ↦ (let P : ℕ × S → Type 0 = λ p. Contains (with_next_pairs a.covers a.widen budget number edge_to pairs after).edges (edge_to p.0) in
+            subst P e (edges_kept after _ _ (with_next_pairs-grows a.covers a.widen budget number edge_to pairs after) (Contains-push log.edges (edge_to first.0))))
+        | inr h ↦ pairs_edges number edge_to pairs after pair h
       ]
 
-  expansion_done : (number : ℕ) (row : Row S) (log : Log S E C W) → IsDone a (with_expansion a budget number row log) number row
+  expansion_taken : (number : ℕ) (row : Row S) (log : Log S E C W) → IsTaken a (with_expansion a budget number row log) number row
   unfolding with_expansion
-  expansion_done number row log =
+  expansion_taken number row log =
       let x = a.expand row.location row.state in
-      let noted = with_notes a budget number x log in
-      let g : Grows noted (with_pairs a budget number row x.next noted) = with_pairs-grows a budget number row x.next noted in
+      let edge_to = a.edge row.location row.state in
+      let noted = with_notes number x log in
+      let g : Grows noted (with_next_pairs a.covers a.widen budget number edge_to x.next noted) = with_next_pairs-grows a.covers a.widen budget number edge_to x.next noted in
       record {
-        edges = λ pair held. pairs_edges number row x.next noted pair held;
-        next = λ pair held. pairs_represented number row x.next noted pair held;
-        causes = λ c held. kept_cause noted _ (number, c) g (Contains-append_right log.causes (map (λ d. (number, d)) x.causes) (number, c) (Contains-map (λ d. (number, d)) x.causes c held));
+        edges = λ pair held. pairs_edges number edge_to x.next noted pair held;
+        next = λ pair held. pairs_represented number edge_to x.next noted pair held;
+        causes = λ c held. causes_kept noted _ (number, c) g (Contains-append_right log.causes (map (λ d. (number, d)) x.causes) (number, c) (Contains-map (λ d. (number, d)) x.causes c held));
         writes = λ w held. writes_kept noted _ w g (Contains-append_right log.writes x.writes w held);
       }
 
-  -- the rows below a number are done
-  pub record AreDone (n : ℕ) (log : Log S E C W) : Type 0 where
-    pub done : (number : ℕ) (row : Row S) → number < n → slice_get log.rows number ≡ Some row → IsDone a log number row
+  -- the rows below a number are expanded into a log
+  record AreTaken (n : ℕ) (log : Log S E C W) : Type 0 where
+    taken : (number : ℕ) (row : Row S) → number < n → slice_get log.rows number ≡ Some row → IsTaken a log number row
 
   -- what is found under an earlier number was found there before
   found_before : (n number : ℕ) (row other : Row S) (log after : Log S E C W) → Grows log after → slice_get log.rows n ≡ Some row → number < n
@@ -87,18 +104,18 @@ module _ {S E C W : Type 0} (a : Analysis S E C W) (budget : ℕ) where
   some_same : (x y : Row S) → Some x ≡ Some y → x ≡ y
   some_same x y e = cc
 
-  one_more_done : (n : ℕ) (row : Row S) (log : Log S E C W) → slice_get log.rows n ≡ Some row → AreDone n log → AreDone (n + 1) (with_expansion a budget n row log)
-  one_more_done n row log at below =
+  one_more_taken : (n : ℕ) (row : Row S) (log : Log S E C W) → slice_get log.rows n ≡ Some row → AreTaken n log → AreTaken (n + 1) (with_expansion a budget n row log)
+  one_more_taken n row log at below =
       let after = with_expansion a budget n row log in
       let g : Grows log after = with_expansion-grows a budget n row log in
       record {
-        done = λ number other within found.
+        taken = λ number other within found.
             elim (eq-or-lt_of_le {n = number} {m = n} (omega arith)) [
-              | inr less ↦ IsDone-grows a log after number other g (below.done number other less (found_before n number row other log after g at less found))
+              | inr less ↦ IsTaken-grows a log after number other g (below.taken number other less (found_before n number row other log after g at less found))
               | inl same ↦ (let e : row ≡ other = some_same row other (sym (row_kept log after n row g at) ∙ ap (slice_get after.rows) (sym same) ∙ found) in
-                  let P : Row S → Type 0 = λ r. IsDone a after number r in
-                  let Q : ℕ → Type 0 = λ k. IsDone a after k row in
-                  subst P e (subst Q (sym same) (expansion_done n row log)))
+                  let P : Row S → Type 0 = λ r. IsTaken a after number r in
+                  let Q : ℕ → Type 0 = λ k. IsTaken a after k row in
+                  subst P e (subst Q (sym same) (expansion_taken n row log)))
             ];
       }
 
@@ -109,30 +126,30 @@ module _ {S E C W : Type 0} (a : Analysis S E C W) (budget : ℕ) where
       cc
 
   -- after the last row nothing is left to do
-  all_done : (n fuel : ℕ) (log : Log S E C W) → slice_get log.rows n ≡ None → AreDone n log → AreDone (n + fuel) log
-  all_done n fuel log none below = record {
-    done = λ number row within found.
+  all_taken : (n fuel : ℕ) (log : Log S E C W) → slice_get log.rows n ≡ None → AreTaken n log → AreTaken (n + fuel) log
+  all_taken n fuel log none below = record {
+    taken = λ number row within found.
         elim (lt_or_le number n) [
-          | inl less ↦ below.done number row less found
+          | inl less ↦ below.taken number row less found
           | inr past ↦ absurd (none_of log n number row none past found)
         ];
   }
 
-  done_at : (n fuel : ℕ) (log : Log S E C W) (found : Option (Row S)) → slice_get log.rows n ≡ found → AreDone n log
-      → ((row : Row S) → slice_get log.rows n ≡ Some row → AreDone ((n + 1) + fuel) (explored a budget fuel (n + 1) (with_expansion a budget n row log)))
-      → AreDone (n + suc fuel) (at_row a budget found log (λ row. explored a budget fuel (n + 1) (with_expansion a budget n row log)))
-  done_at n fuel log None none below rest = all_done n (suc fuel) log none below
-  done_at n fuel log (Some row) at below rest =
-      let P : ℕ → Type 0 = λ k. AreDone k (explored a budget fuel (n + 1) (with_expansion a budget n row log)) in
+  taken_at : (n fuel : ℕ) (log : Log S E C W) (found : Option (Row S)) → slice_get log.rows n ≡ found → AreTaken n log
+      → ((row : Row S) → slice_get log.rows n ≡ Some row → AreTaken ((n + 1) + fuel) (explored a budget fuel (n + 1) (with_expansion a budget n row log)))
+      → AreTaken (n + suc fuel) (at_row a budget found log (λ row. explored a budget fuel (n + 1) (with_expansion a budget n row log)))
+  taken_at n fuel log None none below rest = all_taken n (suc fuel) log none below
+  taken_at n fuel log (Some row) at below rest =
+      let P : ℕ → Type 0 = λ k. AreTaken k (explored a budget fuel (n + 1) (with_expansion a budget n row log)) in
       let e : (n + 1) + fuel ≡ n + suc fuel = omega arith in
       subst P e (rest row at)
 
-  explored_done : (fuel n : ℕ) (log : Log S E C W) → AreDone n log → AreDone (n + fuel) (explored a budget fuel n log)
+  explored_taken : (fuel n : ℕ) (log : Log S E C W) → AreTaken n log → AreTaken (n + fuel) (explored a budget fuel n log)
   unfolding explored
-  explored_done zero n log below = let P : ℕ → Type 0 = λ k. AreDone k log in subst P (sym (add-zero n)) below
-  explored_done (suc fuel) n log below =
-      done_at n fuel log (slice_get log.rows n) refl below
-      (λ row at. explored_done fuel (n + 1) (with_expansion a budget n row log) (one_more_done n row log at below))
+  explored_taken zero n log below = let P : ℕ → Type 0 = λ k. AreTaken k log in subst P (sym (add-zero n)) below
+  explored_taken (suc fuel) n log below =
+      taken_at n fuel log (slice_get log.rows n) refl below
+      (λ row at. explored_taken fuel (n + 1) (with_expansion a budget n row log) (one_more_taken n row log at below))
 
   -- the rows that are marked as expanded are the first ones
   pub record AreFlagged (rows : List (Row S)) : Type 0 where
@@ -146,9 +163,9 @@ module _ {S E C W : Type 0} (a : Analysis S E C W) (budget : ℕ) where
       let same : new ≡ row = some_same new row (sym (slice_get-last rows new) ∙ ap (slice_get (rows ++ new ∷ [])) (sym here) ∙ found) in
       ap (λ r. r.expanded) (sym same) ∙ flag ∙ ap (λ n. nat_lt n budget) (sym here)
 
-  flagged_append : (rows : List (Row S)) (parent : Option ℕ) (location : ℕ) (state : S) → AreFlagged rows → AreFlagged (rows ++ row_after a budget rows parent location state ∷ [])
+  flagged_append : (rows : List (Row S)) (parent : Option ℕ) (location : ℕ) (state : S) → AreFlagged rows → AreFlagged (rows ++ row_after budget rows parent location state ∷ [])
   flagged_append rows parent location state flags =
-      let new = row_after a budget rows parent location state in
+      let new = row_after budget rows parent location state in
       record {
         flag = λ number row found.
             elim (lt_or_le number (length rows)) [
@@ -157,18 +174,18 @@ module _ {S E C W : Type 0} (a : Analysis S E C W) (budget : ℕ) where
             ];
       }
 
-  flagged_with : (parent location : ℕ) (state : S) (rows : List (Row S)) → AreFlagged rows → AreFlagged (with_row a budget parent location state rows)
+  flagged_with : (parent location : ℕ) (state : S) (rows : List (Row S)) → AreFlagged rows → AreFlagged (with_row a.covers budget parent location state rows)
   unfolding with_row
   flagged_with parent location state rows flags =
       elim (list_any (λ seen. a.covers seen state) (states_at location rows))
-      as (λ b. AreFlagged (cond b rows (rows ++ row_after a budget rows (Some parent) location state ∷ [])))
+      as (λ b. AreFlagged (cond b rows (rows ++ row_after budget rows (Some parent) location state ∷ [])))
       [ true ↦ flags | false ↦ flagged_append rows (Some parent) location state flags ]
 
-  flagged_pairs : (number : ℕ) (row : Row S) (pairs : List (ℕ × S)) (log : Log S E C W) → AreFlagged log.rows → AreFlagged (with_pairs a budget number row pairs log).rows
-  unfolding with_pairs
-  flagged_pairs number row [] log flags = flags
-  flagged_pairs number row (pair ∷ pairs) log flags =
-      flagged_pairs number row pairs (with_pair a budget number row pair log) (flagged_with number pair.0 (a.widen (states_at pair.0 log.rows) pair.1) log.rows flags)
+  flagged_pairs : (number : ℕ) (edge_to : ℕ → E) (pairs : List (ℕ × S)) (log : Log S E C W) → AreFlagged log.rows
+      → AreFlagged (with_next_pairs a.covers a.widen budget number edge_to pairs log).rows
+  flagged_pairs number edge_to [] log flags = flags
+  flagged_pairs number edge_to (pair ∷ pairs) log flags =
+      flagged_pairs number edge_to pairs (with_next_pair a.covers a.widen budget number (edge_to pair.0) pair log) (flagged_with number pair.0 (a.widen (states_at pair.0 log.rows) pair.1) log.rows flags)
 
   explored_flagged : (fuel n : ℕ) (log : Log S E C W) → AreFlagged log.rows → AreFlagged (explored a budget fuel n log).rows
   unfolding explored with_expansion
@@ -177,25 +194,146 @@ module _ {S E C W : Type 0} (a : Analysis S E C W) (budget : ℕ) where
       elim (slice_get log.rows n)
       as (λ found. AreFlagged (at_row a budget found log (λ row. explored a budget fuel (n + 1) (with_expansion a budget n row log))).rows) [
         | None ↦ flags
-        | Some row ↦ explored_flagged fuel (n + 1) _ (flagged_pairs n row (a.expand row.location row.state).next (with_notes a budget n (a.expand row.location row.state) log) flags)
+        | Some row ↦ explored_flagged fuel (n + 1) _ (flagged_pairs n (a.edge row.location row.state) (a.expand row.location row.state).next (with_notes n (a.expand row.location row.state) log) flags)
       ]
 
-  -- the finished log is closed
-  pub log_closed : IsClosed a (log_of a budget)
+  -- a row that is expanded is taken into the finished log
+  expanded_taken : (number : ℕ) (row : Row S) → slice_get (log_of a budget).rows number ≡ Some row → row.expanded ≡ true → IsTaken a (log_of a budget) number row
   unfolding log_of
-  log_closed =
+  expanded_taken number row found expanded =
       let log = explored a budget budget 0 (first_log a budget) in
-      let first = row_after a budget [] None a.entry a.start in
-      let g : Grows (first_log a budget) log = explored-grows a budget budget 0 (first_log a budget) in
-      let nothing : AreDone 0 (first_log a budget) = record { done = λ number row within found. absurd (omega arith) } in
+      let nothing : AreTaken 0 (first_log a budget) = record { taken = λ number row within found. absurd (omega arith) } in
       let flags : AreFlagged log.rows = explored_flagged budget 0 (first_log a budget) (flagged_append [] None a.entry a.start (record { flag = λ number row found. cc })) in
-      let all : AreDone (0 + budget) log = explored_done budget 0 (first_log a budget) nothing in
+      let all : AreTaken (0 + budget) log = explored_taken budget 0 (first_log a budget) nothing in
+      let below : nat_lt number budget ≡ true = sym (flags.flag number row found) ∙ expanded in
+      all.taken number row (let l : number < budget = grind arith in omega arith) found
+
+  first_there : slice_get (log_of a budget).rows 0 ≡ Some (row_after budget [] None a.entry a.start)
+  unfolding log_of
+  first_there =
+      let first = first_log a budget in
+      row_kept first (explored a budget budget 0 first) 0 (row_after budget [] None a.entry a.start) (explored-grows a budget budget 0 first) refl
+
+-- where a log marks its rows
+module _ {S E C W : Type 0} (a : Analysis S E C W) (log : Log S E C W) (number : ℕ) (row : Row S) (at : slice_get log.rows number ≡ Some row) where
+  numbered : Contains (enumerate_from 0 log.rows) (number, row)
+  numbered =
+      let P : ℕ → Type 0 = λ n. Contains (enumerate_from 0 log.rows) (n, row) in
+      let same : 0 + number ≡ number = omega arith in
+      subst P same (Contains-numbered 0 log.rows number row at)
+
+  by_location : (c : C) → Contains (a.location_causes log.writes row.location) c → IsOpen a log row.location
+  unfolding marks_by
+  by_location c holds =
+      let causes = a.location_causes log.writes in
       record {
-        first = first;
-        first_in_log = Contains-slice_get log.rows 0 first (row_kept (first_log a budget) log 0 first g refl);
-        first_located = refl;
-        first_state = refl;
-        done = λ number row found expanded.
-            let below : nat_lt number budget ≡ true = sym (flags.flag number row found) ∙ expanded in
-            all.done number row (let l : number < budget = grind arith in omega arith) found;
+        mark = mark_of (number, row) c;
+        in_marks = Contains-append_left (location_marks causes log.rows ++ filter_map (expansion_mark log.rows) log.causes) _ (mark_of (number, row) c)
+            (Contains-append_left (location_marks causes log.rows) _ (mark_of (number, row) c)
+            (Contains-flat_map (λ (r : ℕ × Row S). map (mark_of r) (causes r.1.location)) (enumerate_from 0 log.rows) (number, row) (mark_of (number, row) c) numbered
+            (Contains-map (mark_of (number, row)) (causes row.location) c holds)));
+        located = refl;
       }
+
+  by_expansion : (c : C) → Contains log.causes (number, c) → IsOpen a log row.location
+  unfolding marks_by
+  by_expansion c holds =
+      let causes = a.location_causes log.writes in
+      let found : expansion_mark log.rows (number, c) ≡ Some (mark_of (number, row) c) = ap (option_map (λ (r : Row S). mark_of (number, r) c)) at in
+      record {
+        mark = mark_of (number, row) c;
+        in_marks = Contains-append_left (location_marks causes log.rows ++ filter_map (expansion_mark log.rows) log.causes) _ (mark_of (number, row) c)
+            (Contains-append_right (location_marks causes log.rows) (filter_map (expansion_mark log.rows) log.causes) (mark_of (number, row) c)
+            (Contains-filter_map (expansion_mark log.rows) log.causes (number, c) (mark_of (number, row) c) holds found));
+        located = refl;
+      }
+
+  by_budget : row.expanded ≡ false → IsOpen a log row.location
+  unfolding marks_by
+  by_budget unexpanded =
+      let causes = a.location_causes log.writes in
+      let left : ℕ × Row S → Bool = λ r. not r.1.expanded in
+      record {
+        mark = mark_of (number, row) a.unexpanded;
+        in_marks = Contains-append_right (location_marks causes log.rows ++ filter_map (expansion_mark log.rows) log.causes)
+            (unexpanded_marks a.unexpanded log.rows) (mark_of (number, row) a.unexpanded)
+            (Contains-map (λ (r : ℕ × Row S). mark_of r a.unexpanded) (filter left (enumerate_from 0 log.rows)) (number, row)
+            (Contains-filter left (enumerate_from 0 log.rows) (number, row) numbered (ap not unexpanded)));
+        located = refl;
+      }
+
+  was_expanded : (b : Bool) → row.expanded ≡ b → (IsOpen a log row.location → ⊥) → row.expanded ≡ true
+  was_expanded true is shut = is
+  was_expanded false is shut = absurd (shut (by_budget is))
+
+  row_done : IsTaken a log number row → (IsOpen a log row.location → ⊥) → IsDone a (map pair_of log.rows) log.edges log.writes row.location row.state
+  row_done taken shut = record {
+    no_location_cause = λ c holds. shut (by_location c holds);
+    no_cause = λ c holds. shut (by_expansion c (taken.causes c holds));
+    has_next = taken.next;
+    has_edge = taken.edges;
+    has_write = taken.writes;
+  }
+
+module _ {S E C W : Type 0} (a : Analysis S E C W) (budget : ℕ) where
+  -- the finished log is closed
+  pub log_closed : IsClosed a (map pair_of (log_of a budget).rows) (log_of a budget).edges (log_of a budget).writes (IsOpen a (log_of a budget))
+  log_closed =
+      let log = log_of a budget in
+      let first = row_after budget [] None a.entry a.start in
+      record {
+        first = a.start;
+        first_in_rows = Contains-map pair_of log.rows first (Contains-slice_get log.rows 0 first (first_there a budget));
+        first_stands = inl refl;
+        done = λ location state held shut.
+            let numbered = position_of (map pair_of log.rows) (location, state) held in
+            let found : IsMappedAt pair_of log.rows numbered.0 (location, state) = mapped_at pair_of log.rows numbered.0 (location, state) numbered.1 in
+            let P : ℕ × S → Type 0 = λ p. (IsOpen a log p.0 → ⊥) → IsDone a (map pair_of log.rows) log.edges log.writes p.0 p.1 in
+            let here : P (pair_of found.from) = λ closed.
+            row_done a log numbered.0 found.from found.at
+            (expanded_taken a budget numbered.0 found.from found.at (was_expanded a log numbered.0 found.from found.at found.from.expanded refl closed)) closed in
+            subst P found.is here shut;
+      }
+
+-- each row of a log of a sound analysis is well
+module _ {S E C W M : Type 0} (a : Analysis S E C W) (machine : Machine M E) (IsWell : S → Type 0) (Describes : S → M → Type 0) (IsLoadedBut : List W → M → Type 0)
+    (sound : Sound a machine IsWell Describes IsLoadedBut) (budget : ℕ) where
+  abbrev AreWell : List (Row S) → Type 0
+  AreWell rows = All (λ row. IsWell row.state) rows
+
+  well_with : (parent location : ℕ) (state : S) (rows : List (Row S)) → IsWell state → AreWell rows → AreWell (with_row a.covers budget parent location state rows)
+  unfolding with_row
+  well_with parent location state rows well all =
+      elim (list_any (λ seen. a.covers seen state) (states_at location rows))
+      as (λ b. AreWell (cond b rows (rows ++ row_after budget rows (Some parent) location state ∷ [])))
+      [ true ↦ all | false ↦ All-push (λ (row : Row S). IsWell row.state) rows (row_after budget rows (Some parent) location state) all well ]
+
+  well_pairs : (number : ℕ) (edge_to : ℕ → E) (pairs : List (ℕ × S)) (log : Log S E C W) → ((pair : ℕ × S) → Contains pairs pair → IsWell pair.1) → AreWell log.rows
+      → AreWell (with_next_pairs a.covers a.widen budget number edge_to pairs log).rows
+  well_pairs number edge_to [] log each all = all
+  well_pairs number edge_to (pair ∷ pairs) log each all =
+      let seen = states_at pair.0 log.rows in
+      well_pairs number edge_to pairs (with_next_pair a.covers a.widen budget number (edge_to pair.0) pair log) (λ other held. each other (Contains-later pair other pairs held))
+      (well_with number pair.0 (a.widen seen pair.1) log.rows (sound.widen_well seen pair.1 (each pair (Contains-here pair pairs))) all)
+
+  well_explored_from : (fuel number : ℕ) (log : Log S E C W) (found : Option (Row S)) → slice_get log.rows number ≡ found → AreWell log.rows
+      → ((row : Row S) → AreWell (with_expansion a budget number row log).rows → AreWell (explored a budget fuel (number + 1) (with_expansion a budget number row log)).rows)
+      → AreWell (at_row a budget found log (λ row. explored a budget fuel (number + 1) (with_expansion a budget number row log))).rows
+  unfolding with_expansion
+  well_explored_from fuel number log None at all rest = all
+  well_explored_from fuel number log (Some row) at all rest =
+      let well : IsWell row.state = All-contains (λ (r : Row S). IsWell r.state) log.rows row all (Contains-slice_get log.rows number row at) in
+      rest row (well_pairs number (a.edge row.location row.state) (a.expand row.location row.state).next (with_notes number (a.expand row.location row.state) log)
+      (λ pair held. sound.next_well row.location row.state pair well held) all)
+
+  well_explored : (fuel number : ℕ) (log : Log S E C W) → AreWell log.rows → AreWell (explored a budget fuel number log).rows
+  unfolding explored
+  well_explored zero number log all = all
+  well_explored (suc fuel) number log all =
+      well_explored_from fuel number log (slice_get log.rows number) refl all (λ row more. well_explored fuel (number + 1) (with_expansion a budget number row log) more)
+
+  pub rows_well : All (λ (row : ℕ × S). IsWell row.1) (map pair_of (log_of a budget).rows)
+  unfolding log_of
+  rows_well =
+      All-map (λ (row : ℕ × S). IsWell row.1) pair_of (log_of a budget).rows
+      (well_explored budget 0 (first_log a budget) (All-push (λ (row : Row S). IsWell row.state) [] (row_after budget [] None a.entry a.start) (All-nil (λ (row : Row S). IsWell row.state)) sound.start_well))

@@ -1,11 +1,11 @@
 -- A log only grows: what is in it stays, under the same number.
-use Rattle.std.proofs.Common.{◌≡◌, ℕ, zero, suc, ◌+◌, true, false, List, [], ◌∷◌, ◌++◌, map, refl, sym, ◌∙◌, ap, subst, cond, Some, None, append_assoc}
+use Rattle.std.proofs.Common.{◌≡◌, ℕ, zero, suc, ◌+◌, Bool, true, false, List, [], ◌∷◌, ◌++◌, map, refl, sym, ◌∙◌, ap, subst, cond, Some, None, append_assoc}
 use Rattle.std.specs.Prelude.{Contains, slice_get}
 use Rattle.std.specs.List.{list_any}
+use Rattle.std.proofs.lemmas.List.{map-append}
 use Rattle.std.proofs.lemmas.List.Elements.{Contains-append_left}
 use Rattle.flow_log.specs.Analysis.{Analysis, Expansion}
-use Rattle.flow_log.specs.Log.{Row, Log, states_at, row_after, with_row, with_pair, with_pairs, with_notes, with_expansion, at_row, explored}
-use Rattle.flow_log.specs.Sound.{IsRepresented, IsDone}
+use Rattle.flow_log.specs.Log.{Row, Log, states_at, row_after, with_row, with_next_pair, with_next_pairs, with_notes, with_expansion, at_row, explored, pair_of}
 use Rattle.flow_log.proofs.Members.{slice_get-append}
 
 pub record Grows {S E C W : Type 0} (old new : Log S E C W) : Type 0 where
@@ -55,41 +55,33 @@ kept {X} xs ys more x e held = let P : List X → Type 0 = λ l. Contains l x in
 pub row_kept : {S E C W : Type 0} (x y : Log S E C W) (number : ℕ) (row : Row S) → Grows x y → slice_get x.rows number ≡ Some row → slice_get y.rows number ≡ Some row
 row_kept x y number row g h = rw g.rows (slice_get-append x.rows g.more_rows number row h)
 
+-- a member of a list of the log stays one
+pub in_rows_kept : {S E C W : Type 0} (x y : Log S E C W) (pair : ℕ × S) → Grows x y → Contains (map pair_of x.rows) pair → Contains (map pair_of y.rows) pair
+in_rows_kept x y pair g held = kept (map pair_of x.rows) (map pair_of y.rows) (map pair_of g.more_rows) pair (ap (map pair_of) g.rows ∙ map-append pair_of x.rows g.more_rows) held
+
+pub edges_kept : {S E C W : Type 0} (x y : Log S E C W) (edge : E) → Grows x y → Contains x.edges edge → Contains y.edges edge
+edges_kept x y edge g held = kept x.edges y.edges g.more_edges edge g.edges held
+
+pub causes_kept : {S E C W : Type 0} (x y : Log S E C W) (noted : ℕ × C) → Grows x y → Contains x.causes noted → Contains y.causes noted
+causes_kept x y noted g held = kept x.causes y.causes g.more_causes noted g.causes held
+
 pub writes_kept : {S E C W : Type 0} (x y : Log S E C W) (w : W) → Grows x y → Contains x.writes w → Contains y.writes w
 writes_kept x y w g held = kept x.writes y.writes g.more_writes w g.writes held
 
-module _ {S E C W : Type 0} (a : Analysis S E C W) where
-  pub IsRepresented-grows : (x y : Log S E C W) (location : ℕ) (state : S) → Grows x y → IsRepresented a x location state → IsRepresented a y location state
-  IsRepresented-grows x y location state g h = record {
-    row = h.row;
-    in_log = kept x.rows y.rows g.more_rows h.row g.rows h.in_log;
-    located = h.located;
-    seen = h.seen;
-    stands = h.stands;
-  }
+grown_rows : {S : Type 0} (covers : S → S → Bool) (budget parent location : ℕ) (state : S) (rows : List (Row S)) → (more : List (Row S)) × (with_row covers budget parent location state rows ≡ rows ++ more)
+unfolding with_row
+grown_rows {S = S} covers budget parent location state rows =
+    elim (list_any (λ seen. covers seen state) (states_at location rows))
+    as (λ b. (more : List (Row S)) × (cond b rows (rows ++ row_after budget rows (Some parent) location state ∷ []) ≡ rows ++ more))
+    [ true ↦ ([], append_nil rows) | false ↦ (row_after budget rows (Some parent) location state ∷ [], refl) ]
 
-  pub IsDone-grows : (x y : Log S E C W) (number : ℕ) (row : Row S) → Grows x y → IsDone a x number row → IsDone a y number row
-  IsDone-grows x y number row g h = record {
-    edges = λ pair held. kept x.edges y.edges g.more_edges _ g.edges (h.edges pair held);
-    next = λ pair held. IsRepresented-grows x y pair.0 pair.1 g (h.next pair held);
-    causes = λ c held. kept x.causes y.causes g.more_causes _ g.causes (h.causes c held);
-    writes = λ w held. kept x.writes y.writes g.more_writes _ g.writes (h.writes w held);
-  }
-
-module _ {S E C W : Type 0} (a : Analysis S E C W) (budget : ℕ) where
-  grown_rows : (parent location : ℕ) (state : S) (rows : List (Row S)) → (more : List (Row S)) × (with_row a budget parent location state rows ≡ rows ++ more)
-  unfolding with_row
-  grown_rows parent location state rows =
-      elim (list_any (λ seen. a.covers seen state) (states_at location rows))
-      as (λ b. (more : List (Row S)) × (cond b rows (rows ++ row_after a budget rows (Some parent) location state ∷ []) ≡ rows ++ more))
-      [ true ↦ ([], append_nil rows) | false ↦ (row_after a budget rows (Some parent) location state ∷ [], refl) ]
-
-  pub with_pair-grows : (number : ℕ) (row : Row S) (pair : ℕ × S) (log : Log S E C W) → Grows log (with_pair a budget number row pair log)
-  with_pair-grows number row pair log =
-      let grown = grown_rows number pair.0 (a.widen (states_at pair.0 log.rows) pair.1) log.rows in
+module _ {S E C W : Type 0} (covers : S → S → Bool) (widen : List S → S → S) (budget : ℕ) where
+  pub with_next_pair-grows : (number : ℕ) (edge : E) (pair : ℕ × S) (log : Log S E C W) → Grows log (with_next_pair covers widen budget number edge pair log)
+  with_next_pair-grows number edge pair log =
+      let grown = grown_rows covers budget number pair.0 (widen (states_at pair.0 log.rows) pair.1) log.rows in
       record {
         more_rows = grown.0;
-        more_edges = a.edge row.location row.state pair.0 ∷ [];
+        more_edges = edge ∷ [];
         more_causes = [];
         more_writes = [];
         rows = grown.1;
@@ -98,29 +90,30 @@ module _ {S E C W : Type 0} (a : Analysis S E C W) (budget : ℕ) where
         writes = append_nil log.writes;
       }
 
-  pub with_pairs-grows : (number : ℕ) (row : Row S) (pairs : List (ℕ × S)) (log : Log S E C W) → Grows log (with_pairs a budget number row pairs log)
-  unfolding with_pairs
-  with_pairs-grows number row [] log = Grows-same log
-  with_pairs-grows number row (pair ∷ pairs) log =
-      Grows-trans _ _ _ (with_pair-grows number row pair log) (with_pairs-grows number row pairs (with_pair a budget number row pair log))
+  pub with_next_pairs-grows : (number : ℕ) (edge_to : ℕ → E) (pairs : List (ℕ × S)) (log : Log S E C W) → Grows log (with_next_pairs covers widen budget number edge_to pairs log)
+  with_next_pairs-grows number edge_to [] log = Grows-same log
+  with_next_pairs-grows number edge_to (pair ∷ pairs) log =
+      let after = with_next_pair covers widen budget number (edge_to pair.0) pair log in
+      Grows-trans _ _ _ (with_next_pair-grows number (edge_to pair.0) pair log) (with_next_pairs-grows number edge_to pairs after)
 
-  pub with_notes-grows : (number : ℕ) (x : Expansion S C W) (log : Log S E C W) → Grows log (with_notes a budget number x log)
-  with_notes-grows number x log = record {
-    more_rows = [];
-    more_edges = [];
-    more_causes = map (λ c. (number, c)) x.causes;
-    more_writes = x.writes;
-    rows = append_nil log.rows;
-    edges = append_nil log.edges;
-    causes = refl;
-    writes = refl;
-  }
+pub with_notes-grows : {S E C W : Type 0} (number : ℕ) (x : Expansion S C W) (log : Log S E C W) → Grows log (with_notes number x log)
+with_notes-grows number x log = record {
+  more_rows = [];
+  more_edges = [];
+  more_causes = map (λ c. (number, c)) x.causes;
+  more_writes = x.writes;
+  rows = append_nil log.rows;
+  edges = append_nil log.edges;
+  causes = refl;
+  writes = refl;
+}
 
+module _ {S E C W : Type 0} (a : Analysis S E C W) (budget : ℕ) where
   pub with_expansion-grows : (number : ℕ) (row : Row S) (log : Log S E C W) → Grows log (with_expansion a budget number row log)
   unfolding with_expansion
   with_expansion-grows number row log =
       let x = a.expand row.location row.state in
-      Grows-trans _ _ _ (with_notes-grows number x log) (with_pairs-grows number row x.next (with_notes a budget number x log))
+      Grows-trans _ _ _ (with_notes-grows number x log) (with_next_pairs-grows a.covers a.widen budget number (a.edge row.location row.state) x.next (with_notes number x log))
 
   pub explored-grows : (fuel number : ℕ) (log : Log S E C W) → Grows log (explored a budget fuel number log)
   unfolding explored

@@ -1,109 +1,67 @@
--- No run of a machine leaves a closed log of a sound analysis before it first stands at an open location.
-use Rattle.std.proofs.Common.{◌≡◌, ℕ, ◌⊎◌, Bool, true, false, not, List, [], ◌∷◌, ◌++◌, map, refl, sym, ◌∙◌, ap, subst, inl, inr, Some}
-use Rattle.std.specs.Prelude.{Contains, slice_get, filter, filter_map, flat_map, option_map}
-use Rattle.std.proofs.lemmas.List.Elements.{Contains-append_right, Contains-append_left}
+-- No run of a machine leaves closed rows of a sound analysis before it first stands at an open location.
+use Rattle.std.proofs.Common.{◌≡◌, ℕ, ◌⊎◌, true, List, [], ◌∷◌, sym, subst, inl, inr}
+use Rattle.std.specs.Prelude.{Contains, All}
+use Rattle.std.proofs.lemmas.List.Elements.{All-contains}
 use Rattle.flow_log.specs.Analysis.{Analysis}
-use Rattle.flow_log.specs.Log.{Row, Log, marks_by, marks_of, marked, mark_of_cause, IsOpen}
 use Rattle.flow_log.specs.Run.{Machine, IsRun, Follows}
-use Rattle.flow_log.specs.Sound.{Sound, IsFound, IsRepresented, IsDone, IsClosed, IsKnown}
-use Rattle.flow_log.proofs.Members.{Contains-map, Contains-flat_map, Contains-filter, Contains-filter_map, number_of}
+use Rattle.flow_log.specs.Sound.{Sound, IsFound, StandsFor, IsRepresented, IsDone, IsClosed, IsKnown}
 
-module _ {S E C W : Type 0} (a : Analysis S E C W) (log : Log S E C W) where
-  mark_fixed : (row : Row S) (c : C) → Contains log.rows row → Contains (a.fixed log.writes row.location) c → IsOpen a log row.location
-  unfolding marks_by
-  mark_fixed row c held holds = (
-    c,
-    Contains-append_left (flat_map (λ r. marked r.location (a.fixed log.writes r.location)) log.rows ++ filter_map (mark_of_cause log.rows) log.causes) _ (row.location, c)
-        (Contains-append_left (flat_map (λ r. marked r.location (a.fixed log.writes r.location)) log.rows) _ (row.location, c)
-        (Contains-flat_map (λ r. marked r.location (a.fixed log.writes r.location)) log.rows row (row.location, c) held
-        (Contains-map (λ d. (row.location, d)) (a.fixed log.writes row.location) c holds))),
-  )
+module _ {S E C W M : Type 0} (a : Analysis S E C W) (machine : Machine M E) (IsWell : S → Type 0) (Describes : S → M → Type 0) (IsLoadedBut : List W → M → Type 0)
+    (sound : Sound a machine IsWell Describes IsLoadedBut) (rows : List (ℕ × S)) (edges : List E) (writes : List W) (Open : ℕ → Type 0)
+    (closed : IsClosed a rows edges writes Open) (well : All (λ row. IsWell row.1) rows) where
+  abbrev Known : M → Type 0
+  Known m = IsKnown machine Describes IsLoadedBut rows writes m
 
-  mark_cause : (number : ℕ) (row : Row S) (c : C) → slice_get log.rows number ≡ Some row → Contains log.causes (number, c) → IsOpen a log row.location
-  unfolding marks_by
-  mark_cause number row c at holds =
-      let found : mark_of_cause log.rows (number, c) ≡ Some (row.location, c) = ap (option_map (λ r. (r.location, c))) at in (
-        c,
-        Contains-append_left (flat_map (λ r. marked r.location (a.fixed log.writes r.location)) log.rows ++ filter_map (mark_of_cause log.rows) log.causes) _ (row.location, c)
-            (Contains-append_right (flat_map (λ r. marked r.location (a.fixed log.writes r.location)) log.rows) (filter_map (mark_of_cause log.rows) log.causes) (row.location, c)
-            (Contains-filter_map (mark_of_cause log.rows) log.causes (number, c) (row.location, c) holds found)),
-      )
+  row_well : (location : ℕ) (state : S) → Contains rows (location, state) → IsWell state
+  row_well location state held = All-contains (λ (row : ℕ × S). IsWell row.1) rows (location, state) well held
 
-  mark_spent : (row : Row S) → Contains log.rows row → row.expanded ≡ false → IsOpen a log row.location
-  unfolding marks_by
-  mark_spent row held unexpanded = (
-    a.spent,
-    Contains-append_right (flat_map (λ r. marked r.location (a.fixed log.writes r.location)) log.rows ++ filter_map (mark_of_cause log.rows) log.causes)
-        (map (λ r. (r.location, a.spent)) (filter (λ r. not r.expanded) log.rows)) (row.location, a.spent)
-        (Contains-map (λ r. (r.location, a.spent)) (filter (λ r. not r.expanded) log.rows) row (Contains-filter (λ r. not r.expanded) log.rows row held (ap not unexpanded))),
-  )
+  -- what stands for a described state describes it too
+  described : (t s : S) (m : M) → IsWell t → IsWell s → StandsFor a t s → Describes s m → Describes t m
+  described t s m t_well s_well (inl same) d = let P : S → Type 0 = λ z. Describes z m in subst P (sym same) d
+  described t s m t_well s_well (inr covers) d = sound.covers t s m t_well s_well covers d
 
-  -- a row at a location that is not open is expanded, and no cause holds there
-  pub record IsFree (number : ℕ) (row : Row S) (location : ℕ) : Type 0 where
-    pub done : IsDone a log number row
-    pub fixed : (c : C) → Contains (a.fixed log.writes location) c → ⊥
-    pub causes : (c : C) → Contains (a.expand location row.state).causes c → ⊥
+  described_widened : (t s : S) (m : M) → IsWell t → IsWell s → StandsFor a t s ⊎ ((seen : List S) × StandsFor a t (a.widen seen s)) → Describes s m → Describes t m
+  described_widened t s m t_well s_well (inl stands) d = described t s m t_well s_well stands d
+  described_widened t s m t_well s_well (inr (seen, stands)) d =
+      described t (a.widen seen s) m t_well (sound.widen_well seen s s_well) stands (sound.widen seen s m s_well d)
 
-  was_expanded : (row : Row S) (b : Bool) → row.expanded ≡ b → Contains log.rows row → (IsOpen a log row.location → ⊥) → row.expanded ≡ true
-  was_expanded row true is held closed = is
-  was_expanded row false is held closed = absurd (closed (mark_spent row held is))
-
-  free : IsClosed a log → (number : ℕ) (row : Row S) → slice_get log.rows number ≡ Some row → Contains log.rows row → (IsOpen a log row.location → ⊥) → IsFree number row row.location
-  free closed number row at held shut =
-      let done : IsDone a log number row = closed.done number row at (was_expanded row row.expanded refl held shut) in
+  -- a start is known
+  pub start_known : (m : M) → machine.place m ≡ a.entry → Describes a.start m → IsLoadedBut writes m → Known m
+  start_known m at d loaded =
+      let P : ℕ → Type 0 = λ l. Contains rows (l, closed.first) in
       record {
-        done = done;
-        fixed = λ c holds. shut (mark_fixed row c held holds);
-        causes = λ c holds. shut (mark_cause number row c at (done.causes c holds));
+        state = closed.first;
+        in_rows = subst P (sym at) closed.first_in_rows;
+        describes = described closed.first a.start m (row_well a.entry closed.first closed.first_in_rows) sound.start_well closed.first_stands d;
+        loaded = loaded;
       }
-
-module _ {S E C W M : Type 0} (a : Analysis S E C W) (machine : Machine M E) (Describes : S → M → Type 0) (Keeps : List W → M → Type 0)
-    (sound : Sound a machine Describes Keeps) (log : Log S E C W) (closed : IsClosed a log) where
-  Known : M → Type 0
-  Known m = IsKnown machine Describes Keeps log m
 
   -- one step from a known state at a place that is not open
   record IsStepped (m next : M) : Type 0 where
-    edge : Contains log.edges (machine.edge m next)
-    known : IsKnown machine Describes Keeps log next
+    edge : Contains edges (machine.edge m next)
+    known : IsKnown machine Describes IsLoadedBut rows writes next
 
-  stands_for : (t w : S) (m : M) → (t ≡ w) ⊎ (a.covers t w ≡ true) → Describes w m → Describes t m
-  stands_for t w m (inl same) d = let P : S → Type 0 = λ s. Describes s m in subst P (sym same) d
-  stands_for t w m (inr covers) d = sound.covers t w m covers d
-
-  step_from : (m next : M) (number : ℕ) (row : Row S) → IsFree a log number row (machine.place m) → row.location ≡ machine.place m → Describes row.state m → Keeps log.writes m
-      → machine.Steps m next → IsStepped m next
-  step_from m next number row free located describes keeps steps =
-      let found : IsFound a machine Describes row.state m next = sound.step log.writes row.state m next describes keeps free.fixed free.causes steps in
-      let at_location : (l : ℕ) → Type 0 = λ l. Contains (a.expand l row.state).next (machine.place next, found.state) in
-      let pair : Contains (a.expand row.location row.state).next (machine.place next, found.state) = subst at_location (sym located) found.pair in
-      let there : IsRepresented a log (machine.place next) found.state = free.done.next (machine.place next, found.state) pair in
-      let edge_at : a.edge row.location row.state (machine.place next) ≡ machine.edge m next = ap (λ l. a.edge l row.state (machine.place next)) located ∙ found.edge in
-      let in_edges : E → Type 0 = λ e. Contains log.edges e in
-      let written : (w : W) → Contains (a.expand (machine.place m) row.state).writes w → Contains log.writes w =
-      λ w held. free.done.writes w (let P : ℕ → Type 0 = λ l. Contains (a.expand l row.state).writes w in subst P (sym located) held) in
+  step_known : (m next : M) → Known m → (Open (machine.place m) → ⊥) → machine.Steps m next → IsStepped m next
+  step_known m next known shut steps =
+      let at = machine.place m in
+      let s = known.state in
+      let s_well : IsWell s = row_well at s known.in_rows in
+      let done : IsDone a rows edges writes at s = closed.done at s known.in_rows shut in
+      let found : IsFound a machine Describes s m next = sound.step writes s m next s_well known.describes known.loaded done.no_location_cause done.no_cause steps in
+      let there : IsRepresented a rows (machine.place next) found.state = done.has_next (machine.place next, found.state) found.pair in
+      let in_edges : E → Type 0 = λ e. Contains edges e in
       record {
-        edge = subst in_edges edge_at (free.done.edges (machine.place next, found.state) pair);
+        edge = subst in_edges found.edge (done.has_edge (machine.place next, found.state) found.pair);
         known = record {
-          row = there.row;
-          in_log = there.in_log;
-          located = there.located;
-          describes = stands_for there.row.state (a.widen there.seen found.state) next there.stands (sound.widen there.seen found.state next found.describes);
-          keeps = sound.writes log.writes row.state m next describes keeps free.fixed free.causes written steps;
+          state = there.row;
+          in_rows = there.in_rows;
+          describes = described_widened there.row found.state next (row_well (machine.place next) there.row there.in_rows)
+              (sound.next_well at s (machine.place next, found.state) s_well found.pair) there.stands found.describes;
+          loaded = sound.writes writes s m next s_well known.describes known.loaded done.no_location_cause done.no_cause done.has_write steps;
         };
       }
 
-  step_known : (m next : M) → IsKnown machine Describes Keeps log m → (IsOpen a log (machine.place m) → ⊥) → machine.Steps m next → IsStepped m next
-  step_known m next known shut steps =
-      let row = known.row in
-      let numbered = number_of log.rows row known.in_log in
-      let open_at : ℕ → Type 0 = λ l. IsOpen a log l → ⊥ in
-      let free_here : IsFree a log numbered.0 row row.location = free a log closed numbered.0 row numbered.1 known.in_log (subst open_at (sym known.located) shut) in
-      let free_at : ℕ → Type 0 = λ l. IsFree a log numbered.0 row l in
-      step_from m next numbered.0 row (subst free_at known.located free_here) known.located known.describes known.keeps steps
-
-  pub run_follows : (m : M) (states : List M) → IsKnown machine Describes Keeps log m → IsRun machine m states
-      → Follows machine (IsKnown machine Describes Keeps log) (IsOpen a log) log.edges m states
+  pub run_follows : (m : M) (states : List M) → Known m → IsRun machine m states → Follows machine Known Open edges m states
   run_follows m [] known run = known
   run_follows m (next ∷ rest) known run = (
     known,

@@ -1,7 +1,7 @@
 -- Members of lists, and the rows at a location.
-use Rattle.std.proofs.Common.{◌≡◌, ℕ, zero, suc, ◌<◌, ◌≤◌, ◌⊎◌, Bool, true, false, List, [], ◌∷◌, ◌++◌, length, map, refl, sym, ◌∙◌, ap, subst, inl, inr, arith, cond, Option, Some, None}
+use Rattle.std.proofs.Common.{◌≡◌, ℕ, zero, suc, ◌+◌, ◌<◌, ◌≤◌, ◌⊎◌, Bool, true, false, List, [], ◌∷◌, ◌++◌, length, map, refl, sym, ◌∙◌, ap, subst, inl, inr, arith, cond, Option, Some, None}
 use Rattle.std.specs.Prelude.{Contains, filter, filter_map, flat_map, ◌==◌, nat_eq, slice_get}
-use Rattle.std.specs.List.{list_any, cons_option}
+use Rattle.std.specs.List.{list_any, cons_option, enumerate_from}
 use Rattle.std.proofs.lemmas.Option.{slice_get_read}
 use Rattle.std.proofs.lemmas.List.Elements.{Contains-append_right, Contains-append_left, Contains-append_cases}
 use Rattle.flow_log.specs.Log.{Row, states_at}
@@ -117,6 +117,31 @@ Contains-filter_map {X} {Y} h (z ∷ xs) x y held gives =
       | inr l ↦ mapped_later h z y xs (Contains-filter_map h xs x y l gives)
     ]
 
--- a member has a number
-pub number_of : {X : Type 0} (xs : List X) (x : X) → Contains xs x → (k : ℕ) × (slice_get xs k ≡ Some x)
-number_of xs x (k, below, at) = (k, slice_get_read xs (length xs) k x refl below (sym at))
+-- a member has a position
+pub position_of : {X : Type 0} (xs : List X) (x : X) → Contains xs x → (k : ℕ) × (slice_get xs k ≡ Some x)
+position_of xs x (k, below, at) = (k, slice_get_read xs (length xs) k x refl below (sym at))
+
+-- what a list has under a number it has with that number
+pub Contains-numbered : {X : Type 0} (n : ℕ) (xs : List X) (k : ℕ) (x : X) → slice_get xs k ≡ Some x → Contains (enumerate_from n xs) (n + k, x)
+Contains-numbered n [] k x at = cc
+Contains-numbered {X} n (y ∷ xs) zero x at =
+    let same : y ≡ x = cc in
+    let P : X → Type 0 = λ z. Contains ((n, y) ∷ enumerate_from (n + 1) xs) (n + 0, z) in
+    let Q : ℕ → Type 0 = λ i. Contains ((n, y) ∷ enumerate_from (n + 1) xs) (i, y) in
+    let here : n ≡ n + 0 = omega arith in
+    subst P same (subst Q here (Contains-here (n, y) (enumerate_from (n + 1) xs)))
+Contains-numbered {X} n (y ∷ xs) (suc k) x at =
+    let next : (n + 1) + k ≡ n + suc k = omega arith in
+    let Q : ℕ → Type 0 = λ i. Contains (enumerate_from (n + 1) xs) (i, x) in
+    Contains-later (n, y) (n + suc k, x) (enumerate_from (n + 1) xs) (subst Q next (Contains-numbered (n + 1) xs k x at))
+
+-- what a mapped list has under a number comes from what the list has there
+pub record IsMappedAt {X Y : Type 0} (f : X → Y) (xs : List X) (k : ℕ) (y : Y) : Type 0 where
+  pub from : X
+  pub at : slice_get xs k ≡ Some from
+  pub is : f from ≡ y
+
+pub mapped_at : {X Y : Type 0} (f : X → Y) (xs : List X) (k : ℕ) (y : Y) → slice_get (map f xs) k ≡ Some y → IsMappedAt f xs k y
+mapped_at f [] k y at = cc
+mapped_at f (x ∷ xs) zero y at = record { from = x; at = refl; is = cc }
+mapped_at f (x ∷ xs) (suc k) y at = (let found = mapped_at f xs k y at in record { from = found.from; at = found.at; is = found.is })

@@ -19,6 +19,6 @@ pub record Analysis (S E C W : Type 0) : Type 0 where
   -- a state made to stand for more, by the states of the earlier rows at its location
   pub widen : List S → S → S
   -- the causes that hold of a location whatever rows are there, by all written ranges
-  pub fixed : List W → ℕ → List C
+  pub location_causes : List W → ℕ → List C
   -- the cause of a row that was not expanded
-  pub spent : C
+  pub unexpanded : C

@@ -1,7 +1,6 @@
--- What makes an analysis sound for a machine, and what it is for a log to be closed.
-use Rattle.std.specs.Prelude.{ℕ, ◌≡◌, ◌⊎◌, true, List, Some, slice_get, Contains}
+-- What makes an analysis sound for a machine, and what it is for rows and edges to be closed.
+use Rattle.std.specs.Prelude.{ℕ, ◌≡◌, ◌⊎◌, true, List, Contains}
 use Rattle.flow_log.specs.Analysis.{Analysis}
-use Rattle.flow_log.specs.Log.{Log, Row}
 use Rattle.flow_log.specs.Run.{Machine}
 
 -- some next pair of an expansion has the place of a new machine state and describes it, and the step is the pair's edge
@@ -11,49 +10,56 @@ pub record IsFound {S E C W M : Type 0} (a : Analysis S E C W) (machine : Machin
   pub describes : Describes state next
   pub edge : a.edge (machine.place m) s (machine.place next) ≡ machine.edge m next
 
--- `Describes s m`: the state s stands for the machine state m. `Keeps ws m`: outside the ranges ws the image's bytes in m are as they were loaded.
-pub record Sound {S E C W M : Type 0} (a : Analysis S E C W) (machine : Machine M E) (Describes : S → M → Type 0) (Keeps : List W → M → Type 0) : Type 0 where
-  pub covers : (t s : S) (m : M) → a.covers t s ≡ true → Describes s m → Describes t m
-  pub widen : (seen : List S) (s : S) (m : M) → Describes s m → Describes (a.widen seen s) m
+-- `IsWell s`: the state s is well formed. `Describes s m`: s stands for the machine state m.
+-- `IsLoadedBut ws m`: outside the ranges ws the image's bytes in m are as they were loaded.
+pub record Sound {S E C W M : Type 0} (a : Analysis S E C W) (machine : Machine M E) (IsWell : S → Type 0) (Describes : S → M → Type 0) (IsLoadedBut : List W → M → Type 0) : Type 0 where
+  pub start_well : IsWell a.start
+  pub next_well : (location : ℕ) (s : S) (pair : ℕ × S) → IsWell s → Contains (a.expand location s).next pair → IsWell pair.1
+  pub widen_well : (seen : List S) (s : S) → IsWell s → IsWell (a.widen seen s)
+  pub covers : (t s : S) (m : M) → IsWell t → IsWell s → a.covers t s ≡ true → Describes s m → Describes t m
+  pub widen : (seen : List S) (s : S) (m : M) → IsWell s → Describes s m → Describes (a.widen seen s) m
   -- one step from a described state at whose place no cause holds
-  pub step : (ws : List W) (s : S) (m next : M) → Describes s m → Keeps ws m
-      → ((c : C) → Contains (a.fixed ws (machine.place m)) c → ⊥)
+  pub step : (ws : List W) (s : S) (m next : M) → IsWell s → Describes s m → IsLoadedBut ws m
+      → ((c : C) → Contains (a.location_causes ws (machine.place m)) c → ⊥)
       → ((c : C) → Contains (a.expand (machine.place m) s).causes c → ⊥)
       → machine.Steps m next → IsFound a machine Describes s m next
   -- and what it writes of the image lies in the ranges that the expansion gives
-  pub writes : (ws : List W) (s : S) (m next : M) → Describes s m → Keeps ws m
-      → ((c : C) → Contains (a.fixed ws (machine.place m)) c → ⊥)
+  pub writes : (ws : List W) (s : S) (m next : M) → IsWell s → Describes s m → IsLoadedBut ws m
+      → ((c : C) → Contains (a.location_causes ws (machine.place m)) c → ⊥)
       → ((c : C) → Contains (a.expand (machine.place m) s).causes c → ⊥)
       → ((w : W) → Contains (a.expand (machine.place m) s).writes w → Contains ws w)
-      → machine.Steps m next → Keeps ws next
+      → machine.Steps m next → IsLoadedBut ws next
 
--- a row of the log stands for a pair of a location and a state: it is the widened pair, or covers it
-pub record IsRepresented {S E C W : Type 0} (a : Analysis S E C W) (log : Log S E C W) (location : ℕ) (state : S) : Type 0 where
-  pub row : Row S
-  pub in_log : Contains log.rows row
-  pub located : row.location ≡ location
-  pub seen : List S
-  pub stands : (row.state ≡ a.widen seen state) ⊎ (a.covers row.state (a.widen seen state) ≡ true)
+-- rows are pairs of a location and a state, of a log or of any other table
+module _ {S E C W : Type 0} (a : Analysis S E C W) where
+  -- one state stands for another: it is that state, or covers it
+  abbrev pub StandsFor : S → S → Type 0
+  StandsFor t s = (t ≡ s) ⊎ (a.covers t s ≡ true)
 
--- all that the expansion of a row gives is in the log
-pub record IsDone {S E C W : Type 0} (a : Analysis S E C W) (log : Log S E C W) (number : ℕ) (row : Row S) : Type 0 where
-  pub edges : (pair : ℕ × S) → Contains (a.expand row.location row.state).next pair → Contains log.edges (a.edge row.location row.state pair.0)
-  pub next : (pair : ℕ × S) → Contains (a.expand row.location row.state).next pair → IsRepresented a log pair.0 pair.1
-  pub causes : (c : C) → Contains (a.expand row.location row.state).causes c → Contains log.causes (number, c)
-  pub writes : (w : W) → Contains (a.expand row.location row.state).writes w → Contains log.writes w
+  -- a row stands for a pair: for its state as it is, or for that widened
+  pub record IsRepresented (rows : List (ℕ × S)) (location : ℕ) (state : S) : Type 0 where
+    pub row : S
+    pub in_rows : Contains rows (location, row)
+    pub stands : StandsFor row state ⊎ ((seen : List S) × StandsFor row (a.widen seen state))
 
--- the entry has its row, and each row that is expanded is done
-pub record IsClosed {S E C W : Type 0} (a : Analysis S E C W) (log : Log S E C W) : Type 0 where
-  pub first : Row S
-  pub first_in_log : Contains log.rows first
-  pub first_located : first.location ≡ a.entry
-  pub first_state : first.state ≡ a.start
-  pub done : (number : ℕ) (row : Row S) → slice_get log.rows number ≡ Some row → row.expanded ≡ true → IsDone a log number row
+  -- no cause holds of a row, and all to which it leads is there
+  pub record IsDone (rows : List (ℕ × S)) (edges : List E) (writes : List W) (location : ℕ) (state : S) : Type 0 where
+    pub no_location_cause : (c : C) → Contains (a.location_causes writes location) c → ⊥
+    pub no_cause : (c : C) → Contains (a.expand location state).causes c → ⊥
+    pub has_next : (pair : ℕ × S) → Contains (a.expand location state).next pair → IsRepresented rows pair.0 pair.1
+    pub has_edge : (pair : ℕ × S) → Contains (a.expand location state).next pair → Contains edges (a.edge location state pair.0)
+    pub has_write : (w : W) → Contains (a.expand location state).writes w → Contains writes w
 
--- a machine state is known to a log: a row at its place describes it, and the written ranges of the log say what differs from the image
-pub record IsKnown {S E C W M : Type 0} (machine : Machine M E) (Describes : S → M → Type 0) (Keeps : List W → M → Type 0) (log : Log S E C W) (m : M) : Type 0 where
-  pub row : Row S
-  pub in_log : Contains log.rows row
-  pub located : row.location ≡ machine.place m
-  pub describes : Describes row.state m
-  pub keeps : Keeps log.writes m
+  -- a row stands for the start, and each row at a location that is not open is done
+  pub record IsClosed (rows : List (ℕ × S)) (edges : List E) (writes : List W) (Open : ℕ → Type 0) : Type 0 where
+    pub first : S
+    pub first_in_rows : Contains rows (a.entry, first)
+    pub first_stands : StandsFor first a.start
+    pub done : (location : ℕ) (state : S) → Contains rows (location, state) → (Open location → ⊥) → IsDone rows edges writes location state
+
+-- a machine state is known to rows: one at its place describes it, and the written ranges say what differs from the image
+pub record IsKnown {S E W M : Type 0} (machine : Machine M E) (Describes : S → M → Type 0) (IsLoadedBut : List W → M → Type 0) (rows : List (ℕ × S)) (writes : List W) (m : M) : Type 0 where
+  pub state : S
+  pub in_rows : Contains rows (machine.place m, state)
+  pub describes : Describes state m
+  pub loaded : IsLoadedBut writes m

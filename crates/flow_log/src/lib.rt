@@ -5,10 +5,8 @@
 
 mod cause;
 mod edge;
-mod items;
 mod sets;
 
 pub use cause::Cause;
 pub use edge::{Edge, Label};
-pub use items::Items;
 pub use sets::{sorted_edges, sorted_set};

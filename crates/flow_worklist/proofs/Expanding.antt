@@ -1,60 +1,51 @@
 -- The code's steps on a log are those of the definition.
-use Rattle.std.proofs.Common.{◌≡◌, ℕ, zero, suc, ◌+◌, List, [], ◌∷◌, ◌++◌, map, Option, Some, None, ◌⊎◌, inl, inr, refl, sym, ◌∙◌, ap, subst}
-use Rattle.std.specs.Prelude.{slice_get, option_map, unwrap_or}
+use Rattle.std.proofs.Common.{◌≡◌, ℕ, zero, suc, ◌+◌, ◌<◌, List, [], ◌∷◌, ◌++◌, length, take, get_or, Option, Some, None, inl, inr, refl, sym, ◌∙◌, ap, subst}
+use Rattle.std.specs.Prelude.{fold, slice_get}
+use Rattle.std.proofs.lemmas.List.{take_more}
 use Rattle.domain_laws.specs.Laws.{Values}
-use Rattle.memory_map.specs.Image.{Image, name_at}
+use Rattle.memory_map.specs.Image.{Image}
 use Rattle.flow_log.specs.declared.edge.Edge.{Edge}
-use Rattle.flow_log.specs.declared.edge.Label.TheVariants.{Code}
-use Rattle.flow_log.specs.Log.{Row, states_at, with_row, with_pair, with_pairs, with_notes, with_expansion, at_row, explored, log_of, first_log}
-use Rattle.x86_machine.specs.Machine.{label_by}
-use Rattle.abstract_state.specs.declared.state.State.{State}
+use Rattle.flow_log.specs.declared.edge.Label.{Label}
+use Rattle.flow_log.specs.Log.{Row, with_next_pairs, with_notes, with_expansion, at_row, explored, log_of, first_log}
+use Rattle.abstract_state.specs.State.{Known, covers_state}
 use Rattle.abstract_state.specs.Expanding.{Expanded}
-use Rattle.flow_worklist.specs.Post.{image_bytes, post}
-use Rattle.flow_worklist.specs.Posted.{IsLabelled, Posted}
-use Rattle.flow_worklist.specs.Analysis.{ImageLog, analysis_of, image_log, edge_from}
-use Rattle.flow_worklist.specs.Exploring.{notes_added, pair_added, pairs_added, code_edge}
+use Rattle.flow_worklist.specs.declared.post.Post.{Post}
+use Rattle.flow_worklist.specs.Post.{post}
+use Rattle.flow_worklist.specs.PostOf.{IsLabelled, IsPostOf, IsPostOfRow}
+use Rattle.flow_worklist.specs.Analysis.{ImageLog, analysis_of, image_log, edge_by, edge_from, widened_by}
+
+-- a list taken in with one element more
+pub fold_taken : {A X : Type 0} (f : A → X → A) (a : A) (xs : List X) (i : ℕ) (x : X) → i < length xs → x ≡ get_or xs i x → fold f a (take (i + 1) xs) ≡ f (fold f a (take i xs)) x
+fold_taken {A} {X} f a xs i x within is =
+    ap (fold f a) (take_more xs i x within ∙ ap (λ y. take i xs ++ y ∷ []) (sym is)) ∙ last a (take i xs)
+  where
+    last : (start : A) (ys : List X) → fold f start (ys ++ x ∷ []) ≡ f (fold f start ys) x
+    last start [] = refl
+    last start (y ∷ ys) = last (f start y) ys
 
 module _ {D : Type 0} (d : Values D) (image : Image) (k budget : ℕ) where
-  pair_is : (number : ℕ) (row : Row (State D)) (bytes : List ℕ) (pair : ℕ × State D) (log : ImageLog D)
-      → label_by (name_at image row.location) (image_bytes image row.location) ≡ Code (record { items = bytes })
-      → with_pair (analysis_of d image k) budget number row pair log ≡ pair_added d k budget number (code_edge row.location bytes pair.0) pair.1 log
-  unfolding edge_from with_row
-  pair_is number row bytes pair log labelled =
-      ap (λ label. pair_added d k budget number (record { from = row.location; to = pair.0; label = label }) pair.1 log) labelled
+  abbrev with_next : ℕ → (ℕ → Edge) → List (ℕ × Known D) → ImageLog D → ImageLog D
+  with_next number edge_to pairs log = with_next_pairs (covers_state d) (widened_by d k) budget number edge_to pairs log
 
-  pairs_are : (number : ℕ) (row : Row (State D)) (bytes : List ℕ) (pairs : List (ℕ × State D)) (log : ImageLog D)
-      → label_by (name_at image row.location) (image_bytes image row.location) ≡ Code (record { items = bytes })
-      → with_pairs (analysis_of d image k) budget number row pairs log ≡ pairs_added d k budget number row.location bytes pairs log
-  unfolding with_pairs
-  pairs_are number row bytes [] log labelled = refl
-  pairs_are number row bytes (pair ∷ pairs) log labelled =
-      pairs_are number row bytes pairs (with_pair (analysis_of d image k) budget number row pair log) labelled
-      ∙ ap (λ l. pairs_added d k budget number row.location bytes pairs l) (pair_is number row bytes pair log labelled)
-
-  -- the pairs of an expansion, which its bytes label
-  labelled_pairs : (number : ℕ) (row : Row (State D)) (x : Expanded D) (bytes : List ℕ) (log : ImageLog D) → IsLabelled image row.location x bytes
-      → with_pairs (analysis_of d image k) budget number row x.next log ≡ pairs_added d k budget number row.location bytes x.next log
-  unfolding with_pairs
-  labelled_pairs number row x bytes log (inl none) =
-      ap (λ pairs. with_pairs (analysis_of d image k) budget number row pairs log) none ∙ sym (ap (λ pairs. pairs_added d k budget number row.location bytes pairs log) none)
-  labelled_pairs number row x bytes log (inr labelled) = pairs_are number row bytes x.next log labelled
+  -- the pairs of an expansion with the label of its steps
+  labelled_pairs : (number from : ℕ) (x : Expanded D) (label : Label) (log : ImageLog D) → IsLabelled image from x label
+      → with_next number (edge_by from label) x.next log ≡ with_next number (edge_from image from) x.next log
+  unfolding edge_from
+  labelled_pairs number from x label log (inl none) =
+      ap (λ pairs. with_next number (edge_by from label) pairs log) none ∙ sym (ap (λ pairs. with_next number (edge_from image from) pairs log) none)
+  labelled_pairs number from x label log (inr labelled) = ap (λ l. with_next number (edge_by from l) x.next log) (sym labelled)
 
   -- an expansion taken in
-  pub expanded_is : (number at : ℕ) (s : State D) (x : Expanded D) (bytes : List ℕ) (log : ImageLog D) → Posted d image at s x bytes
-      → (row : Row (State D)) → row.location ≡ at → row.state ≡ s
-      → pairs_added d k budget number at bytes x.next (notes_added number x.causes x.writes log) ≡ with_expansion (analysis_of d image k) budget number row log
+  pub expanded_is : (number : ℕ) (row : Row (Known D)) (answer : Post D) (log : ImageLog D) → IsPostOf d image k row.location row.state answer
+      → with_next number (edge_by answer.at answer.label) answer.expansion.next (with_notes number answer.expansion log) ≡ with_expansion (analysis_of d image k) budget number row log
   unfolding with_expansion
-  expanded_is number at s x bytes log p row located same =
-      let a = analysis_of d image k in
-      let is : x ≡ post d image row.location row.state = p.expansion ∙ ap (λ z. post d image z s) (sym located) ∙ ap (λ z. post d image row.location z) (sym same) in
-      let P : ℕ → Type 0 = λ z. IsLabelled image z x bytes in
-      let label : IsLabelled image row.location x bytes = subst P (sym located) p.label in
-      ap (λ z. pairs_added d k budget number z bytes x.next (notes_added number x.causes x.writes log)) (sym located)
-      ∙ sym (labelled_pairs number row x bytes (notes_added number x.causes x.writes log) label)
-      ∙ ap (λ y. with_pairs a budget number row y.next (with_notes a budget number y log)) is
+  expanded_is number row answer log p =
+      ap (λ at. with_next number (edge_by at answer.label) answer.expansion.next (with_notes number answer.expansion log)) p.located
+      ∙ labelled_pairs number row.location answer.expansion answer.label (with_notes number answer.expansion log) p.label
+      ∙ ap (λ (x : Expanded D). with_next number (edge_from image row.location) x.next (with_notes number x log)) p.expansion
 
   -- one turn of the exploration
-  pub explored_one : (fuel number : ℕ) (row : Row (State D)) (log after : ImageLog D) → slice_get log.rows number ≡ Some row
+  pub explored_one : (fuel number : ℕ) (row : Row (Known D)) (log after : ImageLog D) → slice_get log.rows number ≡ Some row
       → after ≡ with_expansion (analysis_of d image k) budget number row log
       → explored (analysis_of d image k) budget (suc fuel) number log ≡ explored (analysis_of d image k) budget fuel (number + 1) after
   unfolding explored
@@ -77,29 +68,23 @@ module _ {D : Type 0} (d : Values D) (image : Image) (k budget : ℕ) where
   unfolding log_of
   explored_all = refl
 
--- where a row stands, and its state
-abbrev pub stands : {S : Type 0} → Row S → ℕ × S
-stands row = (row.location, row.state)
+-- the row of a number whose expansion the code has
+pub record IsRowOf {D : Type 0} (d : Values D) (image : Image) (k : ℕ) (rows : List (Row (Known D))) (number : ℕ) (answer : Post D) : Type 0 where
+  pub row : Row (Known D)
+  pub at : slice_get rows number ≡ Some row
+  pub is : IsPostOf d image k row.location row.state answer
 
--- a row found by them
-pub record IsRowOf {S : Type 0} (rows : List (Row S)) (number at : ℕ) (s : S) : Type 0 where
-  pub row : Row S
-  pub found : slice_get rows number ≡ Some row
-  pub located : row.location ≡ at
-  pub stated : row.state ≡ s
-
-pub row_found : {S : Type 0} (rows : List (Row S)) (number at : ℕ) (s : S) → ◌≡◌ {A = Option (ℕ × S)} (Some (at, s)) (option_map stands (slice_get rows number)) → IsRowOf rows number at s
-row_found {S} rows number at s e = found (slice_get rows number) refl e
+pub row_found : {D : Type 0} (d : Values D) (image : Image) (k : ℕ) (rows : List (Row (Known D))) (number : ℕ) (answer : Post D) → IsPostOfRow d image k (slice_get rows number) (Some answer)
+    → IsRowOf d image k rows number answer
+row_found {D} d image k rows number answer h = found (slice_get rows number) refl h
   where
-    found : (o : Option (Row S)) → slice_get rows number ≡ o → ◌≡◌ {A = Option (ℕ × S)} (Some (at, s)) (option_map stands o) → IsRowOf rows number at s
-    found None is e' = cc
-    found (Some row) is e' =
-        let same : (at, s) ≡ stands row = ap (λ o. unwrap_or o (stands row)) e' in
-        record { row = row; found = is; located = sym (ap (λ p. p.0) same); stated = sym (ap (λ p. p.1) same) }
+    found : (o : Option (Row (Known D))) → slice_get rows number ≡ o → IsPostOfRow d image k o (Some answer) → IsRowOf d image k rows number answer
+    found None at h' = absurd h'
+    found (Some row) at h' = record { row = row; at = at; is = h' }
 
-pub none_found : {S : Type 0} (rows : List (Row S)) (number : ℕ) → ◌≡◌ {A = Option (ℕ × S)} None (option_map stands (slice_get rows number)) → slice_get rows number ≡ None
-none_found {S} rows number e = found (slice_get rows number) refl e
+pub none_found : {D : Type 0} (d : Values D) (image : Image) (k : ℕ) (rows : List (Row (Known D))) (number : ℕ) → IsPostOfRow d image k (slice_get rows number) None → slice_get rows number ≡ None
+none_found {D} d image k rows number h = found (slice_get rows number) refl h
   where
-    found : (o : Option (Row S)) → slice_get rows number ≡ o → ◌≡◌ {A = Option (ℕ × S)} None (option_map stands o) → slice_get rows number ≡ None
-    found None is e' = is
-    found (Some row) is e' = cc
+    found : (o : Option (Row (Known D))) → slice_get rows number ≡ o → IsPostOfRow d image k o None → slice_get rows number ≡ None
+    found None at h' = at
+    found (Some row) at h' = absurd h'

@@ -5,8 +5,7 @@ use Rattle.memory_map.specs.Range.{run_of, cons_or_end}
 use Rattle.x86_syntax.specs.declared.instr.Instr.{Instr}
 use Rattle.x86_syntax.specs.Spelling.{spelled}
 use Rattle.x86_syntax.specs.Decodes.{Decodes}
-use Rattle.x86_semantics.specs.Meant.{listed}
-use Rattle.x86_semantics.proofs.Meaning.{IsListed, listed_found, listed_is}
+use Rattle.x86_syntax.specs.Decodes.{decoded}
 use Rattle.x86_syntax.proofs.DecodesLemmas.{decodes_computes, decoded_finds}
 
 -- the first n bytes are the same, and are there
@@ -38,12 +37,11 @@ run_agrees look other (suc count) (suc n) a agree within =
     (λ i less. let at : ℕ → Type 0 = λ k. other k ≡ look k in let e : a + suc i ≡ (a + 1) + i = omega arith in subst at e (agree (suc i) (omega arith))) rest)
 
 -- the same instruction stands at the front
-pub listed_agrees : (xs ys : List ℕ) (i : Instr) (n : ℕ) → listed ys ≡ Some (i, n) → (n ≤ length ys → AgreeFirst n xs ys) → (listed xs ≡ Some (i, n)) × (take n xs ≡ take n ys)
-listed_agrees xs ys i n found agree =
-    let here : IsListed ys i n = listed_found ys i n found in
-    let there : Decodes ys i n = decoded_finds ys i n here.decodes in
+pub decoded_agrees : (xs ys : List ℕ) (i : Instr) (n : ℕ) → decoded ys ≡ Some (i, n) → (n ≤ length ys → AgreeFirst n xs ys) → (decoded xs ≡ Some (i, n)) × (take n xs ≡ take n ys)
+decoded_agrees xs ys i n found agree =
+    let there : Decodes ys i n = decoded_finds ys i n found in
     let first : AgreeFirst n xs ys = agree there.within in
-    (listed_is xs i n (decodes_computes xs i n (record { within = first.within; short = there.short; names = ap spelled first.same ∙ there.names })) here.means, first.same)
+    (decodes_computes xs i n (record { within = first.within; short = there.short; names = ap spelled first.same ∙ there.names }), first.same)
 
 or_left : (x y : Bool) → (x || y) ≡ false → x ≡ false
 or_left true y e = e

@@ -1,14 +1,18 @@
 -- What is kept of each location stays true as rows come.
-use Rattle.std.proofs.Common.{◌≡◌, ℕ, Bool, true, false, List, [], ◌∷◌, ◌++◌, map, cond, Option, Some, None, refl, sym, ◌∙◌, ap, subst, ◌==◌}
-use Rattle.std.specs.Prelude.{filter, fold, nat_eq}
+use Rattle.std.proofs.Common.{◌≡◌, ℕ, Bool, true, false, List, [], ◌∷◌, ◌++◌, length, map, cond, Option, Some, None, refl, sym, ◌∙◌, ap, subst, ◌==◌, ◌||◌}
+use Rattle.std.specs.Prelude.{filter, fold, nat_eq, slice_get}
+use Rattle.std.specs.List.{list_any}
+use Rattle.std.specs.Option.{option_map_or}
 use Rattle.std.proofs.lemmas.Bool.{eqb-true}
+use Rattle.std.proofs.lemmas.List.{map-append}
+use Rattle.std.proofs.lemmas.List.Elements.{filter-append}
 use Rattle.domain_laws.specs.Laws.{Values}
-use Rattle.flow_log.specs.Log.{Row, states_at}
-use Rattle.abstract_state.specs.declared.seen.Holder.{Holder}
-use Rattle.abstract_state.specs.declared.state.State.{State}
+use Rattle.flow_log.specs.Log.{Row, row_after, rows_at, states_at, with_row}
+use Rattle.flow_log.proofs.Members.{slice_get-append, slice_get-last}
+use Rattle.abstract_state.specs.State.{Known, covers_state}
 use Rattle.abstract_state.specs.Widening.{seen_of, seen_with}
 use Rattle.flow_worklist.specs.declared.visits.Visits.{Visits}
-use Rattle.flow_worklist.specs.Exploring.{IsOf, IsKept}
+use Rattle.flow_worklist.specs.Exploring.{covers_at, IsOf, IsKept}
 
 fold_more : {A X : Type 0} (f : A → X → A) (a : A) (xs : List X) (x : X) → fold f a (xs ++ x ∷ []) ≡ f (fold f a xs) x
 fold_more f a [] x = refl
@@ -18,65 +22,109 @@ append_nil : {X : Type 0} (xs : List X) → xs ++ [] ≡ xs
 append_nil [] = refl
 append_nil (x ∷ xs) = ap (λ ys. x ∷ ys) (append_nil xs)
 
--- the states of a location with one row more
-after_row : {S : Type 0} (b c : Bool) (row first : Row S) (q : ℕ) (rows : List (Row S))
-    → map (λ r. r.state) (filter (λ r. r.location == q) (rows ++ row ∷ [])) ≡ map (λ r. r.state) (filter (λ r. r.location == q) rows) ++ cond c (row.state ∷ []) []
-    → map (λ r. r.state) (cond b (first ∷ filter (λ r. r.location == q) (rows ++ row ∷ [])) (filter (λ r. r.location == q) (rows ++ row ∷ [])))
-    ≡ map (λ r. r.state) (cond b (first ∷ filter (λ r. r.location == q) rows) (filter (λ r. r.location == q) rows)) ++ cond c (row.state ∷ []) []
-after_row true c row first q rows rest = ap (λ ss. first.state ∷ ss) rest
-after_row false c row first q rows rest = rest
+-- what numbers stand for stays as a list grows
+numbers_kept : {X : Type 0} (xs more : List X) (ns : List ℕ) (found : List X) → map (slice_get xs) ns ≡ map Some found → map (slice_get (xs ++ more)) ns ≡ map Some found
+numbers_kept xs more [] [] e = refl
+numbers_kept xs more [] (x ∷ found) e = cc
+numbers_kept xs more (n ∷ ns) [] e = cc
+numbers_kept xs more (n ∷ ns) (x ∷ found) e =
+    let here : slice_get xs n ≡ Some x = cc in
+    let rest : map (slice_get xs) ns ≡ map Some found = cc in
+    ap (λ o. o ∷ map (slice_get (xs ++ more)) ns) (slice_get-append xs more n x here) ∙ ap (λ l. Some x ∷ l) (numbers_kept xs more ns found rest)
 
-only_row : {S : Type 0} (b : Bool) (row : Row S) → map (λ (r : Row S). r.state) (cond b (row ∷ []) []) ≡ cond b (row.state ∷ []) []
-only_row true row = refl
-only_row false row = refl
+-- and the last element has its number
+numbers_more : {X : Type 0} (xs : List X) (x : X) (ns : List ℕ) (found : List X) → map (slice_get xs) ns ≡ map Some found
+    → map (slice_get (xs ++ x ∷ [])) (ns ++ length xs ∷ []) ≡ map Some (found ++ x ∷ [])
+numbers_more xs x ns found e =
+    map-append (slice_get (xs ++ x ∷ [])) ns (length xs ∷ [])
+    ∙ ap (λ l. l ++ slice_get (xs ++ x ∷ []) (length xs) ∷ []) (numbers_kept xs (x ∷ []) ns found e)
+    ∙ ap (λ o. map Some found ++ o ∷ []) (slice_get-last xs x)
+    ∙ sym (map-append Some found (x ∷ []))
 
-pub states_at-more : {S : Type 0} (q : ℕ) (rows : List (Row S)) (row : Row S) → states_at q (rows ++ row ∷ []) ≡ states_at q rows ++ cond (row.location == q) (row.state ∷ []) []
+-- a row more is at its own location, and at no other
+pub row_here : {S : Type 0} (row : Row S) (at : ℕ) (rows : List (Row S)) → (row.location == at) ≡ true → rows_at at (rows ++ row ∷ []) ≡ rows_at at rows ++ row ∷ []
+row_here row at rows is = filter-append (λ r. r.location == at) rows (row ∷ []) ∙ ap (λ c. rows_at at rows ++ cond c (row ∷ []) []) is
+
+pub row_there : {S : Type 0} (row : Row S) (q : ℕ) (rows : List (Row S)) → (row.location == q) ≡ false → rows_at q (rows ++ row ∷ []) ≡ rows_at q rows
+row_there row q rows is =
+    filter-append (λ r. r.location == q) rows (row ∷ []) ∙ ap (λ c. rows_at q rows ++ cond c (row ∷ []) []) is ∙ append_nil (rows_at q rows)
+
+pub states_are : {S : Type 0} (at : ℕ) (rows : List (Row S)) → states_at at rows ≡ map (λ row. row.state) (rows_at at rows)
 unfolding states_at
-states_at-more q [] row = only_row (row.location == q) row
-states_at-more q (first ∷ rows) row = after_row (first.location == q) (row.location == q) row first q rows (states_at-more q rows row)
+states_are at rows = refl
 
 module _ {D : Type 0} (d : Values D) where
-  pub seen_of-none : seen_of d [] ≡ []
-  unfolding seen_of
-  seen_of-none = refl
-
-  pub seen_of-more : (states : List (State D)) (s : State D) → seen_of d (states ++ s ∷ []) ≡ seen_with d s (seen_of d states)
+  seen_of-more : (states : List (Known D)) (s : Known D) → seen_of d (states ++ s ∷ []) ≡ seen_with d s (seen_of d states)
   unfolding seen_of
   seen_of-more states s = fold_more (λ seen t. seen_with d t seen) [] states s
 
-  -- nothing is kept of a location that has no row
-  pub is_new : (v : Visits D) (states : List (State D)) → v.states.items ≡ [] → v.seen ≡ [] → IsKept d None states → IsOf d v states
-  is_new v states none unseen empty =
-      record { states = none ∙ sym empty; seen = unseen ∙ sym seen_of-none ∙ ap (seen_of d) (sym empty) }
+  seen_of-none : seen_of d [] ≡ []
+  unfolding seen_of
+  seen_of-none = refl
 
-  -- one state more
-  pub is_more : (v w : Visits D) (states : List (State D)) (s : State D) → IsOf d v states → w.states.items ≡ v.states.items ++ s ∷ [] → w.seen ≡ seen_with d s v.seen
-      → IsOf d w (states ++ s ∷ [])
-  is_more v w states s h more seen = record {
-    states = more ∙ ap (λ ss. ss ++ s ∷ []) h.states;
-    seen = seen ∙ ap (λ z. seen_with d s z) h.seen ∙ sym (seen_of-more states s);
+  -- nothing is kept of a location that has no row
+  pub is_new : (v : Visits D) (at : ℕ) (rows : List (Row (Known D))) → v.numbers.items ≡ [] → v.seen ≡ [] → rows_at at rows ≡ [] → IsOf d v at rows
+  is_new v at rows none unseen empty = record {
+    numbers = ap (map (slice_get rows)) none ∙ sym (ap (map Some) empty);
+    seen = unseen ∙ sym seen_of-none ∙ ap (seen_of d) (sym (states_are at rows ∙ ap (map (λ (row : Row (Known D)). row.state)) empty));
   }
 
+  -- a row more at the location
+  pub is_more : (v w : Visits D) (at : ℕ) (rows : List (Row (Known D))) (row : Row (Known D)) → (row.location == at) ≡ true → IsOf d v at rows
+      → w.numbers.items ≡ v.numbers.items ++ length rows ∷ [] → w.seen ≡ seen_with d row.state v.seen → IsOf d w at (rows ++ row ∷ [])
+  is_more v w at rows row located h numbers seen =
+      let states : states_at at (rows ++ row ∷ []) ≡ states_at at rows ++ row.state ∷ [] =
+      states_are at (rows ++ row ∷ []) ∙ ap (map (λ (r : Row (Known D)). r.state)) (row_here row at rows located)
+      ∙ map-append (λ (r : Row (Known D)). r.state) (rows_at at rows) (row ∷ []) ∙ ap (λ l. l ++ row.state ∷ []) (sym (states_are at rows)) in
+      record {
+        numbers = ap (map (slice_get (rows ++ row ∷ []))) numbers ∙ numbers_more rows row v.numbers.items (rows_at at rows) h.numbers
+            ∙ sym (ap (map Some) (row_here row at rows located));
+        seen = seen ∙ ap (seen_with d row.state) h.seen ∙ sym (seen_of-more (states_at at rows) row.state) ∙ ap (seen_of d) (sym states);
+      }
+
+  -- a row more elsewhere
+  pub is_elsewhere : (o : Option (Visits D)) (q : ℕ) (rows : List (Row (Known D))) (row : Row (Known D)) → (row.location == q) ≡ false → IsKept d o q rows
+      → IsKept d o q (rows ++ row ∷ [])
+  is_elsewhere None q rows row apart h = row_there row q rows apart ∙ h
+  is_elsewhere (Some v) q rows row apart h =
+      let there : rows_at q (rows ++ row ∷ []) ≡ rows_at q rows = row_there row q rows apart in
+      record {
+        numbers = numbers_kept rows (row ∷ []) v.numbers.items (rows_at q rows) h.numbers ∙ sym (ap (map Some) there);
+        seen = h.seen ∙ ap (seen_of d) (states_are q rows ∙ sym (ap (map (λ (r : Row (Known D)). r.state)) there) ∙ sym (states_are q (rows ++ row ∷ [])));
+      }
+
   -- what is kept put back at a location
-  kept_at : (b : Bool) (at q : ℕ) (v : Visits D) (o : Option (Visits D)) (rows : List (Row (State D))) → nat_eq at q ≡ b → IsOf d v (states_at at rows)
-      → (nat_eq at q ≡ false → IsKept d o (states_at q rows)) → IsKept d (cond b (Some v) o) (states_at q rows)
-  kept_at true at q v o rows is h others = (let P : ℕ → Type 0 = λ z. IsOf d v (states_at z rows) in subst P (eqb-true at q is) h)
+  kept_at : (b : Bool) (at q : ℕ) (v : Visits D) (o : Option (Visits D)) (rows : List (Row (Known D))) → nat_eq at q ≡ b → IsOf d v at rows
+      → (nat_eq at q ≡ false → IsKept d o q rows) → IsKept d (cond b (Some v) o) q rows
+  kept_at true at q v o rows is h others = (let P : ℕ → Type 0 = λ z. IsOf d v z rows in subst P (eqb-true at q is) h)
   kept_at false at q v o rows is h others = others is
 
-  pub kept_put : (at q : ℕ) (v : Visits D) (o now : Option (Visits D)) (rows : List (Row (State D))) → now ≡ cond (nat_eq at q) (Some v) o → IsOf d v (states_at at rows)
-      → (nat_eq at q ≡ false → IsKept d o (states_at q rows)) → IsKept d now (states_at q rows)
+  pub kept_put : (at q : ℕ) (v : Visits D) (o now : Option (Visits D)) (rows : List (Row (Known D))) → now ≡ cond (nat_eq at q) (Some v) o → IsOf d v at rows
+      → (nat_eq at q ≡ false → IsKept d o q rows) → IsKept d now q rows
   kept_put at q v o now rows is h others =
-      let P : Option (Visits D) → Type 0 = λ z. IsKept d z (states_at q rows) in
+      let P : Option (Visits D) → Type 0 = λ z. IsKept d z q rows in
       subst P (sym is) (kept_at (nat_eq at q) at q v o rows refl h others)
 
-  -- a row more is a state more at its own location, and changes nothing at another
-  pub row_here : (row : Row (State D)) (at : ℕ) (rows : List (Row (State D))) → (row.location == at) ≡ true → states_at at (rows ++ row ∷ []) ≡ states_at at rows ++ row.state ∷ []
-  row_here row at rows is = states_at-more at rows row ∙ ap (λ c. states_at at rows ++ cond c (row.state ∷ []) []) is
+  -- a number's row covers a state where a state of the location does
+  any_found : (rows : List (Row (Known D))) (s : Known D) (ns : List ℕ) (found : List (Row (Known D))) → map (slice_get rows) ns ≡ map Some found
+      → list_any (covers_at d rows s) ns ≡ list_any (λ t. covers_state d t s) (map (λ (row : Row (Known D)). row.state) found)
+  any_found rows s [] [] e = refl
+  any_found rows s [] (row ∷ found) e = cc
+  any_found rows s (n ∷ ns) [] e = cc
+  any_found rows s (n ∷ ns) (row ∷ found) e =
+      let here : slice_get rows n ≡ Some row = cc in
+      let rest : map (slice_get rows) ns ≡ map Some found = cc in
+      ap (λ o. option_map_or (λ (r : Row (Known D)). covers_state d r.state s) o false || list_any (covers_at d rows s) ns) here
+      ∙ ap (λ b. covers_state d row.state s || b) (any_found rows s ns found rest)
 
-  pub row_there : (row : Row (State D)) (q : ℕ) (rows : List (Row (State D))) → (row.location == q) ≡ false → states_at q (rows ++ row ∷ []) ≡ states_at q rows
-  row_there row q rows is =
-      states_at-more q rows row ∙ ap (λ c. states_at q rows ++ cond c (row.state ∷ []) []) is ∙ append_nil (states_at q rows)
+  pub any_covers : (v : Visits D) (at : ℕ) (rows : List (Row (Known D))) (s : Known D) → IsOf d v at rows
+      → list_any (covers_at d rows s) v.numbers.items ≡ list_any (λ t. covers_state d t s) (states_at at rows)
+  any_covers v at rows s h = any_found rows s v.numbers.items (rows_at at rows) h.numbers ∙ ap (list_any (λ t. covers_state d t s)) (sym (states_are at rows))
 
-pub states_at-none : {S : Type 0} (q : ℕ) → states_at {S = S} q [] ≡ []
-unfolding states_at
-states_at-none q = refl
+  -- a row appended or not, by what the code finds among the numbers
+  pub with_row_by : (v : Visits D) (budget parent at : ℕ) (s : Known D) (rows : List (Row (Known D))) (b : Bool) → IsOf d v at rows
+      → list_any (covers_at d rows s) v.numbers.items ≡ b
+      → with_row (covers_state d) budget parent at s rows ≡ cond b rows (rows ++ row_after budget rows (Some parent) at s ∷ [])
+  unfolding with_row
+  with_row_by v budget parent at s rows b h is =
+      ap (λ c. cond c rows (rows ++ row_after budget rows (Some parent) at s ∷ [])) (sym (any_covers v at rows s h) ∙ is)

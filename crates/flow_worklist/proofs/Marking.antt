@@ -1,24 +1,20 @@
 -- Lists of marks, as they are pushed.
-use Rattle.std.proofs.Common.{◌≡◌, ℕ, ◌+◌, ◌<◌, Bool, true, false, not, cond, List, [], ◌∷◌, ◌++◌, length, take, get_or, map, Option, Some, None, refl, sym, ◌∙◌, ap}
-use Rattle.std.specs.Prelude.{filter, flat_map, filter_map, option_map, option_to_list, unwrap_or}
-use Rattle.std.specs.List.{cons_option}
-use Rattle.std.proofs.lemmas.List.{take_more}
+use Rattle.std.proofs.Common.{◌≡◌, ℕ, zero, suc, ◌+◌, ◌<◌, Bool, true, false, not, cond, List, [], ◌∷◌, ◌++◌, length, take, get_or, map, Option, Some, None, refl, sym, ◌∙◌, ap, arith}
+use Rattle.std.specs.Prelude.{filter, flat_map, filter_map, option_map, option_to_list, unwrap_or, slice_get}
+use Rattle.std.specs.List.{cons_option, enumerate_from}
+use Rattle.std.proofs.lemmas.List.{take_more, map-append}
 use Rattle.std.proofs.lemmas.Grind.{flat_map-append}
 use Rattle.std.proofs.lemmas.List.Elements.{filter-append, filter_map-append}
 use Rattle.std.proofs.lemmas.Option.{slice_get_read}
-use Rattle.flow_log.specs.Log.{Row, marked}
+use Rattle.flow_log.specs.Log.{Row, Mark, mark_of, location_marks, expansion_mark, unexpanded_marks}
 use Rattle.flow_log.specs.declared.cause.Cause.{Cause}
 use Rattle.flow_log.specs.declared.cause.Cause.TheVariants as causes
 use Rattle.flow_log.specs.declared.edge.Edge.{Edge}
 use Rattle.automaton_text.specs.declared.automaton.Automaton.{Automaton}
 use Rattle.automaton_text.specs.declared.automaton.Location.{Location}
 use Rattle.automaton_text.specs.declared.automaton.OpenMark.{OpenMark}
-use Rattle.flow_worklist.specs.Analysis.{entry_of, mark_of}
-use Rattle.flow_worklist.specs.Exploring.{spent_of}
-
-map_append : {X Y : Type 0} (f : X → Y) (xs ys : List X) → map f (xs ++ ys) ≡ map f xs ++ map f ys
-map_append f [] ys = refl
-map_append f (x ∷ xs) ys = ap (λ zs. f x ∷ zs) (map_append f xs ys)
+use Rattle.flow_worklist.specs.Analysis.{entry_of, open_at, open_mark}
+use Rattle.flow_worklist.specs.Exploring.{cause_unexpanded}
 
 abbrev automaton : ℕ → List Location → List Edge → List OpenMark → Automaton
 automaton entry locations edges marks = record { entry = entry; locations = locations; edges = edges; marks = marks }
@@ -29,7 +25,7 @@ append_nil (x ∷ xs) = ap (λ ys. x ∷ ys) (append_nil xs)
 
 -- three parts mapped, one after another
 pub map_three : {X Y : Type 0} (f : X → Y) (xs ys zs : List X) → (map f xs ++ map f ys) ++ map f zs ≡ map f ((xs ++ ys) ++ zs)
-map_three f xs ys zs = sym (map_append f (xs ++ ys) zs ∙ ap (λ front. front ++ map f zs) (map_append f xs ys))
+map_three f xs ys zs = sym (map-append f (xs ++ ys) zs ∙ ap (λ front. front ++ map f zs) (map-append f xs ys))
 
 pub pushed_three : {X Y : Type 0} (f : X → Y) (xs ys zs : List X) (empty first second third : List Y) → empty ≡ [] → first ≡ empty ++ map f xs → second ≡ first ++ map f ys
     → third ≡ second ++ map f zs → third ≡ map f ((xs ++ ys) ++ zs)
@@ -54,51 +50,87 @@ pub filtered_more : {X Y Z : Type 0} (h : X → Option Y) (f : Y → Z) (xs : Li
 filtered_more h f xs i d within =
     ap (λ l. map f (filter_map h l)) (take_more xs i d within)
     ∙ ap (map f) (filter_map-append h (take i xs) (get_or xs i d ∷ []))
-    ∙ map_append f (filter_map h (take i xs)) (filter_map h (get_or xs i d ∷ []))
+    ∙ map-append f (filter_map h (take i xs)) (filter_map h (get_or xs i d ∷ []))
     ∙ ap (λ last. map f (filter_map h (take i xs)) ++ last) (one_mapped h f (get_or xs i d))
 
 -- the mark of a cause at the row that it names
-pub mark_at : {S : Type 0} (o : Option (Row S)) (at : ℕ) (cause : Cause) → Some at ≡ option_map (λ (row : Row S). row.location) o
-    → option_to_list (option_map mark_of (option_map (λ (row : Row S). (row.location, cause)) o)) ≡ record { at = at; cause = cause } ∷ []
-mark_at None at cause e = cc
-mark_at (Some row) at cause e = (let same : at ≡ row.location = cc in ap (λ n. record { at = n; cause = cause } ∷ []) (sym same))
+pub mark_at : {S : Type 0} (rows : List (Row S)) (number at : ℕ) (cause : Cause) → Some at ≡ option_map (λ (row : Row S). row.location) (slice_get rows number)
+    → option_to_list (option_map open_mark (expansion_mark rows (number, cause))) ≡ open_at at cause ∷ []
+mark_at {S} rows number at cause e = by_row (slice_get rows number) e
+  where
+    by_row : (o : Option (Row S)) → Some at ≡ option_map (λ (row : Row S). row.location) o
+        → option_to_list (option_map open_mark (option_map (λ (row : Row S). mark_of (number, row) cause) o)) ≡ open_at at cause ∷ []
+    by_row None e' = cc
+    by_row (Some row) e' = (let same : at ≡ row.location = cc in ap (λ n. open_at n cause ∷ []) (sym same))
 
-pub no_mark_at : {S : Type 0} (o : Option (Row S)) (cause : Cause) → None ≡ option_map (λ (row : Row S). row.location) o
-    → option_to_list (option_map mark_of (option_map (λ (row : Row S). (row.location, cause)) o)) ≡ []
-no_mark_at None cause e = refl
-no_mark_at (Some row) cause e = cc
+pub no_mark_at : {S : Type 0} (rows : List (Row S)) (number : ℕ) (cause : Cause) → None ≡ option_map (λ (row : Row S). row.location) (slice_get rows number)
+    → option_to_list (option_map open_mark (expansion_mark rows (number, cause))) ≡ []
+no_mark_at {S} rows number cause e = by_row (slice_get rows number) e
+  where
+    by_row : (o : Option (Row S)) → None ≡ option_map (λ (row : Row S). row.location) o
+        → option_to_list (option_map open_mark (option_map (λ (row : Row S). mark_of (number, row) cause) o)) ≡ []
+    by_row None e' = refl
+    by_row (Some row) e' = cc
 
 pub entry_at : {S : Type 0} (rows : List (Row S)) (row : Row S) → 0 < length rows → row ≡ get_or rows 0 row → row.location ≡ entry_of rows
 entry_at {S} rows row some at =
     sym (ap (λ o. unwrap_or (option_map (λ (r : Row S). r.location) o) 0) (slice_get_read rows (length rows) 0 row refl some at))
 
--- the fixed causes of one row more
-pub fixed_more : {S : Type 0} (f : ℕ → List Cause) (rows : List (Row S)) (i : ℕ) (row : Row S) → i < length rows → row ≡ get_or rows i row
-    → map mark_of (flat_map (λ r. marked r.location (f r.location)) (take (i + 1) rows))
-    ≡ map mark_of (flat_map (λ r. marked r.location (f r.location)) (take i rows)) ++ map mark_of (marked row.location (f row.location))
-fixed_more f rows i row within is =
-    ap (λ l. map mark_of (flat_map (λ r. marked r.location (f r.location)) l)) (take_more rows i row within)
-    ∙ ap (λ r. map mark_of (flat_map (λ r. marked r.location (f r.location)) (take i rows ++ r ∷ []))) (sym is)
-    ∙ ap (map mark_of) (flat_map-append (λ r. marked r.location (f r.location)) (take i rows) (row ∷ []) ∙ ap (λ l. flat_map (λ r. marked r.location (f r.location)) (take i rows) ++ l) (append_nil (marked row.location (f row.location))))
-    ∙ map_append mark_of (flat_map (λ r. marked r.location (f r.location)) (take i rows)) (marked row.location (f row.location))
+-- a list with numbers, with one element more
+numbered_more : {X : Type 0} (n : ℕ) (xs : List X) (x : X) → enumerate_from n (xs ++ x ∷ []) ≡ enumerate_from n xs ++ (n + length xs, x) ∷ []
+numbered_more n [] x = (let e : n ≡ n + 0 = omega arith in ap (λ k. (k, x) ∷ []) e)
+numbered_more n (y ∷ xs) x =
+    let e : (n + 1) + length xs ≡ n + suc (length xs) = omega arith in
+    ap (λ l. (n, y) ∷ l) (numbered_more (n + 1) xs x ∙ ap (λ k. enumerate_from (n + 1) xs ++ (k, x) ∷ []) e)
 
-spent_one : {S : Type 0} (row : Row S) (b : Bool) → row.expanded ≡ b
-    → map mark_of (map (λ (r : Row S). (r.location, causes.Budget)) (cond (not row.expanded) (row ∷ []) [])) ≡ map mark_of (marked row.location (option_to_list (spent_of row)))
-spent_one row true is =
-    ap (λ b. map mark_of (map (λ r. (r.location, causes.Budget)) (cond (not b) (row ∷ []) []))) is ∙ sym (ap (λ b. map mark_of (marked row.location (option_to_list (cond b None (Some causes.Budget))))) is)
-spent_one row false is =
-    ap (λ b. map mark_of (map (λ r. (r.location, causes.Budget)) (cond (not b) (row ∷ []) []))) is ∙ sym (ap (λ b. map mark_of (marked row.location (option_to_list (cond b None (Some causes.Budget))))) is)
+marked : {S : Type 0} (numbered : ℕ × Row S) (cs : List Cause) → map open_mark (map (mark_of numbered) cs) ≡ map (open_at numbered.1.location) cs
+marked numbered [] = refl
+marked numbered (c ∷ cs) = ap (λ l. open_at numbered.1.location c ∷ l) (marked numbered cs)
+
+-- the marks of the location of one row more
+location_one : {S : Type 0} (f : ℕ → List Cause) (rows : List (Row S)) (row : Row S)
+    → map open_mark (location_marks f (rows ++ row ∷ [])) ≡ map open_mark (location_marks f rows) ++ map (open_at row.location) (f row.location)
+location_one {S} f rows row =
+    let g : ℕ × Row S → List (Mark Cause) = λ numbered. map (mark_of numbered) (f numbered.1.location) in
+    let last : ℕ × Row S = (0 + length rows, row) in
+    ap (λ l. map open_mark (flat_map g l)) (numbered_more 0 rows row)
+    ∙ ap (map open_mark) (flat_map-append g (enumerate_from 0 rows) (last ∷ []) ∙ ap (λ l. flat_map g (enumerate_from 0 rows) ++ l) (append_nil (g last)))
+    ∙ map-append open_mark (location_marks f rows) (g last)
+    ∙ ap (λ l. map open_mark (location_marks f rows) ++ l) (marked last (f row.location))
+
+pub location_more : {S : Type 0} (f : ℕ → List Cause) (rows : List (Row S)) (i : ℕ) (row : Row S) → i < length rows → row ≡ get_or rows i row
+    → map open_mark (location_marks f (take (i + 1) rows)) ≡ map open_mark (location_marks f (take i rows)) ++ map (open_at row.location) (f row.location)
+location_more f rows i row within is =
+    ap (λ l. map open_mark (location_marks f l)) (take_more rows i row within)
+    ∙ ap (λ r. map open_mark (location_marks f (take i rows ++ r ∷ []))) (sym is)
+    ∙ location_one f (take i rows) row
 
 -- the mark of one row more that is not expanded
-pub spent_more : {S : Type 0} (rows : List (Row S)) (i : ℕ) (row : Row S) → i < length rows → row ≡ get_or rows i row
-    → map mark_of (map (λ (r : Row S). (r.location, causes.Budget)) (filter (λ r. not r.expanded) (take (i + 1) rows)))
-    ≡ map mark_of (map (λ (r : Row S). (r.location, causes.Budget)) (filter (λ r. not r.expanded) (take i rows))) ++ map mark_of (marked row.location (option_to_list (spent_of row)))
-spent_more {S} rows i row within is =
-    let f : Row S → ℕ × Cause = λ r. (r.location, causes.Budget) in
-    let p : Row S → Bool = λ r. not r.expanded in
-    ap (λ l. map mark_of (map f (filter p l))) (take_more rows i row within)
-    ∙ ap (λ r. map mark_of (map f (filter p (take i rows ++ r ∷ [])))) (sym is)
-    ∙ ap (λ l. map mark_of (map f l)) (filter-append p (take i rows) (row ∷ []))
-    ∙ ap (map mark_of) (map_append f (filter p (take i rows)) (filter p (row ∷ [])))
-    ∙ map_append mark_of (map f (filter p (take i rows))) (map f (filter p (row ∷ [])))
-    ∙ ap (λ l. map mark_of (map f (filter p (take i rows))) ++ l) (spent_one row row.expanded refl)
+unexpanded_last : {S : Type 0} (numbered : ℕ × Row S) (b : Bool) → numbered.1.expanded ≡ b
+    → map open_mark (map (λ (r : ℕ × Row S). mark_of r causes.Budget) (cond (not numbered.1.expanded) (numbered ∷ []) []))
+    ≡ map (open_at numbered.1.location) (option_to_list (cause_unexpanded numbered.1))
+unexpanded_last {S} numbered true is =
+    ap (λ b. map open_mark (map (λ (r : ℕ × Row S). mark_of r causes.Budget) (cond (not b) (numbered ∷ []) []))) is
+    ∙ sym (ap (λ b. map (open_at numbered.1.location) (option_to_list (cond b None (Some causes.Budget)))) is)
+unexpanded_last {S} numbered false is =
+    ap (λ b. map open_mark (map (λ (r : ℕ × Row S). mark_of r causes.Budget) (cond (not b) (numbered ∷ []) []))) is
+    ∙ sym (ap (λ b. map (open_at numbered.1.location) (option_to_list (cond b None (Some causes.Budget)))) is)
+
+unexpanded_one : {S : Type 0} (rows : List (Row S)) (row : Row S)
+    → map open_mark (unexpanded_marks causes.Budget (rows ++ row ∷ [])) ≡ map open_mark (unexpanded_marks causes.Budget rows) ++ map (open_at row.location) (option_to_list (cause_unexpanded row))
+unexpanded_one {S} rows row =
+    let p : ℕ × Row S → Bool = λ numbered. not numbered.1.expanded in
+    let f : ℕ × Row S → Mark Cause = λ numbered. mark_of numbered causes.Budget in
+    let last : ℕ × Row S = (0 + length rows, row) in
+    ap (λ l. map open_mark (map f (filter p l))) (numbered_more 0 rows row)
+    ∙ ap (λ l. map open_mark (map f l)) (filter-append p (enumerate_from 0 rows) (last ∷ []))
+    ∙ ap (map open_mark) (map-append f (filter p (enumerate_from 0 rows)) (filter p (last ∷ [])))
+    ∙ map-append open_mark (unexpanded_marks causes.Budget rows) (map f (filter p (last ∷ [])))
+    ∙ ap (λ l. map open_mark (unexpanded_marks causes.Budget rows) ++ l) (unexpanded_last last row.expanded refl)
+
+pub unexpanded_more : {S : Type 0} (rows : List (Row S)) (i : ℕ) (row : Row S) → i < length rows → row ≡ get_or rows i row
+    → map open_mark (unexpanded_marks causes.Budget (take (i + 1) rows)) ≡ map open_mark (unexpanded_marks causes.Budget (take i rows)) ++ map (open_at row.location) (option_to_list (cause_unexpanded row))
+unexpanded_more rows i row within is =
+    ap (λ l. map open_mark (unexpanded_marks causes.Budget l)) (take_more rows i row within)
+    ∙ ap (λ r. map open_mark (unexpanded_marks causes.Budget (take i rows ++ r ∷ []))) (sym is)
+    ∙ unexpanded_one (take i rows) row

@@ -1,86 +1,79 @@
--- The expansion of a row, and the fixed causes of an address, case by case.
-use Rattle.std.proofs.Common.{◌≡◌, ℕ, Bool, List, [], ◌∷◌, take, cond, Some, None, refl, sym, ◌∙◌, ap, ◌==◌, inl, inr}
+-- What an image has at an address, and the expansion of a row there.
+use Rattle.std.proofs.Common.{◌≡◌, ℕ, Bool, true, false, List, [], take, cond, Option, Some, None, refl, sym, ◌∙◌, ap, subst, ◌==◌, inl, inr}
 use Rattle.std.proofs.lemmas.Bool.{eq-eqb, ne_eqb}
+use Rattle.std.specs.Prelude.{Contains}
 use Rattle.domain_laws.specs.Laws.{Values}
+use Rattle.flow_log.proofs.Members.{Contains-none}
+use Rattle.memory_map.specs.Range.{code_run}
 use Rattle.memory_map.specs.Image.{Image, EXIT_PLACE, name_at}
 use Rattle.x86_syntax.specs.declared.instr.Instr.{Instr}
-use Rattle.x86_semantics.specs.Meant.{listed}
-use Rattle.flow_log.specs.declared.cause.Cause.TheVariants as causes
+use Rattle.x86_syntax.specs.Decodes.{decoded}
+use Rattle.flow_log.specs.declared.edge.Label.{Label}
 use Rattle.flow_log.specs.declared.edge.Label.TheVariants.{Code}
 use Rattle.x86_machine.specs.Machine.{label_by, instr_bytes}
-use Rattle.abstract_state.specs.declared.state.State.{State}
-use Rattle.abstract_state.specs.Expanding.{Expanded, nothing, caused}
-use Rattle.transfer_functions.specs.Post.{expand_instr}
-use Rattle.flow_worklist.specs.Post.{Written, image_bytes, post, at_instr, at_name, fixed_causes, fixed_at_instr, fixed_at_name, meets_touched}
-use Rattle.flow_worklist.specs.Posted.{Posted}
+use Rattle.abstract_state.specs.State.{Known}
+use Rattle.abstract_state.specs.Expanding.{Expanded}
+use Rattle.flow_worklist.specs.declared.site.Site.{Site}
+use Rattle.flow_worklist.specs.declared.site.Site.TheVariants.{Exit, Import, Listed, Unlisted}
+use Rattle.flow_worklist.specs.declared.post.Post.{Post}
+use Rattle.flow_worklist.specs.Post.{site_of, site_by, site_at, post, post_at}
+use Rattle.flow_worklist.specs.PostOf.{IsPostOf}
 
-pub label-instr : (image : Image) (a : ℕ) (i : Instr) (n : ℕ) → name_at image a ≡ None → listed (image_bytes image a) ≡ Some (i, n)
-    → label_by (name_at image a) (image_bytes image a) ≡ Code (record { items = take n (image_bytes image a) })
-label-instr image a i n unnamed found =
-    ap (λ o. label_by o (image_bytes image a)) unnamed ∙ ap (λ d. Code (record { items = instr_bytes d (image_bytes image a) })) found
+-- no pair where the expansion has none
+pub no_pair : {D : Type 0} (pairs : List (ℕ × Known D)) (pair : ℕ × Known D) (P : Type 0) → pairs ≡ [] → Contains pairs pair → P
+no_pair {D} pairs pair P none held = let Q : List (ℕ × Known D) → Type 0 = λ ps. Contains ps pair in absurd (Contains-none pair (subst Q none held))
 
-module _ {D : Type 0} (d : Values D) (image : Image) (a : ℕ) (s : State D) where
-  abbrev here : Expanded D
-  here = at_instr d image (listed (image_bytes image a)) a s
+module _ (image : Image) (a : ℕ) where
+  by_exit : (b : Bool) → (a == EXIT_PLACE) ≡ b → site_at image a ≡ cond b Exit (site_by (name_at image a) (site_of (decoded (code_run image.segments a))))
+  unfolding site_at
+  by_exit b is = ap (λ c. cond c Exit (site_by (name_at image a) (site_of (decoded (code_run image.segments a))))) is
 
-  other : post d image a s ≡ cond (a == EXIT_PLACE) nothing (at_name d image (name_at image a) here)
+  pub site-exit : a ≡ EXIT_PLACE → site_at image a ≡ Exit
+  site-exit at = by_exit true (eq-eqb a EXIT_PLACE at)
+
+  pub site-named : (name : List ℕ) → (a ≡ EXIT_PLACE → ⊥) → name_at image a ≡ Some name → site_at image a ≡ Import
+  site-named name off named = by_exit false (ne_eqb a EXIT_PLACE off) ∙ ap (λ o. site_by o (site_of (decoded (code_run image.segments a)))) named
+
+  -- elsewhere it is what the bytes are
+  pub site-bytes : (found : Option (Instr × ℕ)) → (a == EXIT_PLACE) ≡ false → name_at image a ≡ None → decoded (code_run image.segments a) ≡ found → site_at image a ≡ site_of found
+  site-bytes found off unnamed is = by_exit false off ∙ ap (λ o. site_by o (site_of (decoded (code_run image.segments a)))) unnamed ∙ ap site_of is
+
+  -- where a listed instruction is
+  pub record IsListedSite (i : Instr) (n : ℕ) : Type 0 where
+    pub runs : (a == EXIT_PLACE) ≡ false
+    pub unnamed : name_at image a ≡ None
+    pub found : decoded (code_run image.segments a) ≡ Some (i, n)
+
+  listed_by : (i : Instr) (n : ℕ) (b : Bool) (name : Option (List ℕ)) (found : Option (Instr × ℕ)) → (a == EXIT_PLACE) ≡ b → name_at image a ≡ name
+      → decoded (code_run image.segments a) ≡ found → cond b Exit (site_by name (site_of found)) ≡ Listed i n → IsListedSite i n
+  listed_by i n true name found runs named is e = cc
+  listed_by i n false (Some name) found runs named is e = cc
+  listed_by i n false None None runs named is e = cc
+  listed_by i n false None (Some p) runs named is e =
+      let instr : p.0 ≡ i = cc in
+      let size : p.1 ≡ n = cc in
+      record { runs = runs; unnamed = named; found = is ∙ ap (λ x. Some (x, p.1)) instr ∙ ap (λ x. Some (i, x)) size }
+
+  pub listed_site : (i : Instr) (n : ℕ) → site_at image a ≡ Listed i n → IsListedSite i n
+  unfolding site_at
+  listed_site i n is = listed_by i n (a == EXIT_PLACE) (name_at image a) (decoded (code_run image.segments a)) refl refl refl is
+
+  pub label-listed : (i : Instr) (n : ℕ) → site_at image a ≡ Listed i n → label_by (name_at image a) (code_run image.segments a) ≡ Code (record { items = take n (code_run image.segments a) })
+  label-listed i n is =
+      let at = listed_site i n is in
+      ap (λ o. label_by o (code_run image.segments a)) at.unnamed ∙ ap (λ found. Code (record { items = instr_bytes found (code_run image.segments a) })) at.found
+
+module _ {D : Type 0} (d : Values D) (image : Image) (k a : ℕ) (s : Known D) where
+  pub post_is : (site : Site) → site_at image a ≡ site → post d image k a s ≡ post_at d image k site a s
   unfolding post
-  other = refl
+  post_is site is = ap (λ z. post_at d image k z a s) is
 
-  pub post-exit : a ≡ EXIT_PLACE → post d image a s ≡ nothing
-  post-exit at = other ∙ ap (λ b. cond b nothing (at_name d image (name_at image a) here)) (eq-eqb a EXIT_PLACE at)
+  -- what the code answers of a row without a next pair
+  pub without_steps : (site : Site) (answer : Post D) → site_at image a ≡ site → answer.at ≡ a → answer.expansion ≡ post_at d image k site a s → (post_at d image k site a s).next ≡ []
+      → IsPostOf d image k a s answer
+  without_steps site answer is at x none = record { located = at; expansion = x ∙ sym (post_is site is); label = inl (ap (λ (y : Expanded D). y.next) x ∙ none) }
 
-  past_exit : (a ≡ EXIT_PLACE → ⊥) → post d image a s ≡ at_name d image (name_at image a) here
-  past_exit off = other ∙ ap (λ b. cond b nothing (at_name d image (name_at image a) here)) (ne_eqb a EXIT_PLACE off)
-
-  pub post-name : (name : List ℕ) → (a ≡ EXIT_PLACE → ⊥) → name_at image a ≡ Some name → post d image a s ≡ caused causes.NoStub
-  post-name name off named = past_exit off ∙ ap (λ o. at_name d image o here) named
-
-  pub post-none : (a ≡ EXIT_PLACE → ⊥) → name_at image a ≡ None → listed (image_bytes image a) ≡ None → post d image a s ≡ caused causes.Bytes
-  post-none off unnamed none = past_exit off ∙ ap (λ o. at_name d image o here) unnamed ∙ ap (λ i. at_instr d image i a s) none
-
-  pub post-instr : (i : Instr) (n : ℕ) → (a ≡ EXIT_PLACE → ⊥) → name_at image a ≡ None → listed (image_bytes image a) ≡ Some (i, n)
-      → post d image a s ≡ expand_instr d image.align i a n s
-  post-instr i n off unnamed found = past_exit off ∙ ap (λ o. at_name d image o here) unnamed ∙ ap (λ j. at_instr d image j a s) found
-
-  -- what the code answers
-  pub posted-exit : (x : Expanded D) → a ≡ EXIT_PLACE → x ≡ nothing → Posted d image a s x []
-  posted-exit x at is = record { expansion = is ∙ sym (post-exit at); label = inl (ap (λ y. y.next) is) }
-
-  pub posted-name : (x : Expanded D) (name : List ℕ) → (a ≡ EXIT_PLACE → ⊥) → name_at image a ≡ Some name → x ≡ caused causes.NoStub → Posted d image a s x []
-  posted-name x name off named is = record { expansion = is ∙ sym (post-name name off named); label = inl (ap (λ y. y.next) is) }
-
-  pub posted-none : (x : Expanded D) → (a ≡ EXIT_PLACE → ⊥) → name_at image a ≡ None → listed (image_bytes image a) ≡ None → x ≡ caused causes.Bytes
-      → Posted d image a s x []
-  posted-none x off unnamed none is = record { expansion = is ∙ sym (post-none off unnamed none); label = inl (ap (λ y. y.next) is) }
-
-  pub posted-instr : (x : Expanded D) (i : Instr) (n : ℕ) (bytes : List ℕ) → (a ≡ EXIT_PLACE → ⊥) → name_at image a ≡ None
-      → listed (image_bytes image a) ≡ Some (i, n) → x ≡ expand_instr d image.align i a n s → bytes ≡ take n (image_bytes image a) → Posted d image a s x bytes
-  posted-instr x i n bytes off unnamed found is first =
-      record {
-        expansion = is ∙ sym (post-instr i n off unnamed found);
-        label = inr (label-instr image a i n unnamed found ∙ ap (λ items. Code (record { items = items })) (sym first));
-      }
-
-module _ (image : Image) (a : ℕ) (writes : List Written) where
-  others : fixed_causes image writes a ≡ cond (a == EXIT_PLACE) [] (fixed_at_name (name_at image a) (fixed_at_instr (listed (image_bytes image a)) image writes a))
-  unfolding fixed_causes
-  others = refl
-
-  pub fixed-exit : a ≡ EXIT_PLACE → fixed_causes image writes a ≡ []
-  fixed-exit at = others ∙ ap (λ b. cond b [] (fixed_at_name (name_at image a) (fixed_at_instr (listed (image_bytes image a)) image writes a))) (eq-eqb a EXIT_PLACE at)
-
-  fixed_past : (a ≡ EXIT_PLACE → ⊥) → fixed_causes image writes a ≡ fixed_at_name (name_at image a) (fixed_at_instr (listed (image_bytes image a)) image writes a)
-  fixed_past off = others ∙ ap (λ b. cond b [] (fixed_at_name (name_at image a) (fixed_at_instr (listed (image_bytes image a)) image writes a))) (ne_eqb a EXIT_PLACE off)
-
-  pub fixed-name : (name : List ℕ) → (a ≡ EXIT_PLACE → ⊥) → name_at image a ≡ Some name → fixed_causes image writes a ≡ causes.NoStub ∷ []
-  fixed-name name off named = fixed_past off ∙ ap (λ o. fixed_at_name o (fixed_at_instr (listed (image_bytes image a)) image writes a)) named
-
-  pub fixed-none : (a ≡ EXIT_PLACE → ⊥) → name_at image a ≡ None → listed (image_bytes image a) ≡ None → fixed_causes image writes a ≡ causes.Bytes ∷ []
-  fixed-none off unnamed none = fixed_past off ∙ ap (λ o. fixed_at_name o (fixed_at_instr (listed (image_bytes image a)) image writes a)) unnamed
-      ∙ ap (λ d. fixed_at_instr d image writes a) none
-
-  pub fixed-instr : (i : Instr) (n : ℕ) (t : Bool) → (a ≡ EXIT_PLACE → ⊥) → name_at image a ≡ None → listed (image_bytes image a) ≡ Some (i, n)
-      → meets_touched image writes a n ≡ t → fixed_causes image writes a ≡ cond t (causes.Code ∷ []) []
-  fixed-instr i n t off unnamed found touched = fixed_past off ∙ ap (λ o. fixed_at_name o (fixed_at_instr (listed (image_bytes image a)) image writes a)) unnamed
-      ∙ ap (λ d. fixed_at_instr d image writes a) found ∙ ap (λ b. cond b (causes.Code ∷ []) []) touched
+  -- and of an instruction
+  pub with_steps : (i : Instr) (n : ℕ) (answer : Post D) → site_at image a ≡ Listed i n → answer.at ≡ a → answer.expansion ≡ post_at d image k (Listed i n) a s
+      → answer.label ≡ Code (record { items = take n (code_run image.segments a) }) → IsPostOf d image k a s answer
+  with_steps i n answer is at x label = record { located = at; expansion = x ∙ sym (post_is (Listed i n) is); label = inr (label-listed image a i n is ∙ sym label) }

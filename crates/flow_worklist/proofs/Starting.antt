@@ -6,11 +6,12 @@ use Rattle.std.proofs.lemmas.Bool.{leb-true}
 use Rattle.std.proofs.lemmas.List.Elements.{filter-append}
 use Rattle.memory_map.specs.declared.span.Span.{Span}
 use Rattle.memory_map.specs.Range.{Range, has, end_of, byte_at, code_at}
-use Rattle.memory_map.specs.Image.{Image, is_in_span}
+use Rattle.memory_map.specs.Image.{Image}
+use Rattle.memory_map.specs.Spans.{is_in_span}
 use Rattle.memory_map.specs.State.{MachineState}
 use Rattle.memory_map.specs.Start.{Start, HoldsLoaded}
-use Rattle.flow_worklist.specs.Post.{Written}
-use Rattle.flow_worklist.specs.Analysis.{Keeps}
+use Rattle.abstract_state.specs.Expanding.{Written}
+use Rattle.flow_worklist.specs.Analysis.{HasLoadedCode}
 
 and_left : (x y : Bool) → (x && y) ≡ true → x ≡ true
 and_left true y e = refl
@@ -87,9 +88,9 @@ or_right : (x y : Bool) → (x || y) ≡ false → y ≡ false
 or_right true y e = cc
 or_right false y e = e
 
-pub start_keeps : (image : Image) (writes : List Written) (m : MachineState) → Start image m → Keeps image writes m
+pub start_has_code : (image : Image) (writes : List Written) (m : MachineState) → Start image m → HasLoadedCode image writes m
 unfolding code_at byte_at
-start_keeps image writes m start =
+start_has_code image writes m start =
     let map = start.mapped in
     record {
       code = λ a untouched.

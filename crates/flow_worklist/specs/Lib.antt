@@ -1,4 +1,5 @@
 pub mod Post
-pub mod Posted
+pub mod PostOf
 pub mod Analysis
 pub mod Exploring
+pub mod FixedCode

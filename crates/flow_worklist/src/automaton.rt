@@ -1,23 +1,28 @@
-ghost use Rattle.std.specs.Prelude.{◌≡◌, ◌<◌, ◌++◌, IfOk, OnOk, length, map, flat_map, filter, filter_map, not, option_map, option_to_list};
+ghost use Rattle.std.specs.Prelude.{◌≡◌, ◌<◌, ◌++◌, IfOk, OnOk, length, map, filter_map, option_map, option_to_list};
 ghost use Rattle.std.specs.Ordering.{nat_cmp};
-ghost use Rattle.flow_log.specs.Log.{marked, mark_of_cause, marks_by};
+ghost use Rattle.flow_log.specs.Log.{expansion_mark, location_marks, marks_by, unexpanded_marks};
 ghost use Rattle.flow_log.specs.Ordered.{ordered_set};
-ghost use Rattle.flow_worklist.specs.Post.{fixed_causes};
-ghost use Rattle.flow_worklist.specs.Analysis.{automaton_of, location_of, mark_of};
-ghost use Rattle.flow_worklist.specs.Exploring.{spent_of};
+ghost use Rattle.flow_worklist.specs.Post.{location_causes};
+ghost use Rattle.flow_worklist.specs.Analysis.{automaton_of, location_of, open_at, open_mark};
+ghost use Rattle.flow_worklist.specs.Exploring.{cause_unexpanded};
 
-use crate::fixed::fixed_cause;
+use crate::location::location_cause;
 use crate::log::location_at;
 use crate::{Log, Row};
 use automaton_text::{Automaton, Location, OpenMark, sorted_marks};
 use bit_words::NoMemory;
-use flow_log::{Cause, Edge, Items, sorted_edges, sorted_set};
+use domain_laws::Domain;
+use flow_log::{Cause, Edge, sorted_edges, sorted_set};
 use image_loader::Image;
-use memory_map::Name;
+use memory_map::{Items, Name};
 use std::alloc::Global;
 
-/// The automaton of a log that was made with this image.
-pub fn automaton_of<D>(alloc: Global, image: &Image, log: &Log<D>) -> Result<Automaton, NoMemory>
+/// The automaton of a log that was made with this image. Refuses want of memory alone.
+pub fn automaton_of<D: Domain>(
+    alloc: Global,
+    image: &Image,
+    log: &Log<D>,
+) -> Result<Automaton, NoMemory>
     requires { 0 < length log.now.rows }
     ensures { IfOk result (λ a. a ≡ automaton_of image.now log.now) }
 {
@@ -33,7 +38,7 @@ pub fn automaton_of<D>(alloc: Global, image: &Image, log: &Log<D>) -> Result<Aut
     })
 }
 
-fn addresses<D>(alloc: Global, rows: &[Row<D>]) -> Result<Vec<u32>, NoMemory>
+fn addresses<D: Domain>(alloc: Global, rows: &[Row<D>]) -> Result<Vec<u32>, NoMemory>
     ensures { IfOk result (λ a. a.items ≡ map (λ row. row.location) rows.now) }
 {
     let mut found = Vec::new(alloc);
@@ -55,7 +60,11 @@ fn location(alloc: Global, image: &Image, at: u32) -> Result<Location, NoMemory>
     }
 }
 
-fn locations<D>(alloc: Global, image: &Image, rows: &[Row<D>]) -> Result<Vec<Location>, NoMemory>
+fn locations<D: Domain>(
+    alloc: Global,
+    image: &Image,
+    rows: &[Row<D>],
+) -> Result<Vec<Location>, NoMemory>
     ensures { IfOk result (λ l. l.items ≡ map (location_of image.now) (ordered_set nat_cmp (map (λ row. row.location) rows.now))) }
 {
     let sorted = sorted_set(addresses(alloc, rows)?);
@@ -84,19 +93,19 @@ fn copies(alloc: Global, edges: &[Edge]) -> Result<Vec<Edge>, NoMemory>
 
 // All marks, in the order of the definition.
 #[tactic(auto, unfolding(flow_log::specs::Log::marks_by))]
-fn marks<D>(alloc: Global, image: &Image, log: &Log<D>) -> Result<Vec<OpenMark>, NoMemory>
-    ensures { IfOk result (λ m. m.items ≡ map mark_of (marks_by (fixed_causes image.now) Cause.Budget log.now)) }
+fn marks<D: Domain>(alloc: Global, image: &Image, log: &Log<D>) -> Result<Vec<OpenMark>, NoMemory>
+    ensures { IfOk result (λ m. m.items ≡ map open_mark (marks_by (location_causes image.now) Cause.Budget log.now)) }
 {
     let mut found = Vec::new(alloc);
-    push_fixed(&mut found, image, log.writes(), log.rows())?;
-    push_causes(&mut found, log.rows(), log.causes())?;
-    push_spent(&mut found, log.rows())?;
+    push_location_marks(&mut found, image, log.writes(), log.rows())?;
+    push_expansion_marks(&mut found, log.rows(), log.causes())?;
+    push_unexpanded_marks(&mut found, log.rows())?;
     Ok(found)
 }
 
 // A mark at an address, where there is a cause.
 fn push_mark(out: &mut Vec<OpenMark>, at: u32, cause: Option<Cause>) -> Result<(), NoMemory>
-    ensures { OnOk result (out.new.items ≡ out.old.items ++ map mark_of (marked at (option_to_list cause))) }
+    ensures { OnOk result (out.new.items ≡ out.old.items ++ map (open_at at) (option_to_list cause)) }
 {
     if let Some(cause) = cause {
         out.push(OpenMark { at, cause })?;
@@ -104,28 +113,28 @@ fn push_mark(out: &mut Vec<OpenMark>, at: u32, cause: Option<Cause>) -> Result<(
     Ok(())
 }
 
-fn push_fixed<D>(
+fn push_location_marks<D: Domain>(
     out: &mut Vec<OpenMark>,
     image: &Image,
     writes: &[(u32, u32)],
     rows: &[Row<D>],
 ) -> Result<(), NoMemory>
-    ensures { OnOk result (out.new.items ≡ out.old.items ++ map mark_of (flat_map (λ row. marked row.location (fixed_causes image.now writes.now row.location)) rows.now)) }
+    ensures { OnOk result (out.new.items ≡ out.old.items ++ map open_mark (location_marks (location_causes image.now writes.now) rows.now)) }
 {
     for row in rows {
         let at = row.location();
-        push_mark(out, at, fixed_cause(image, writes, at))?;
+        push_mark(out, at, location_cause(image, writes, at))?;
     }
     Ok(())
 }
 
-fn push_cause<D>(
+fn push_expansion_mark<D: Domain>(
     out: &mut Vec<OpenMark>,
     rows: &[Row<D>],
     number: u32,
     cause: Cause,
 ) -> Result<(), NoMemory>
-    ensures { OnOk result (out.new.items ≡ out.old.items ++ option_to_list (option_map mark_of (mark_of_cause rows.now (number, cause)))) }
+    ensures { OnOk result (out.new.items ≡ out.old.items ++ option_to_list (option_map open_mark (expansion_mark rows.now (number, cause)))) }
 {
     match location_at(rows, number) {
         None => Ok(()),
@@ -136,22 +145,22 @@ fn push_cause<D>(
     }
 }
 
-fn push_causes<D>(
+fn push_expansion_marks<D: Domain>(
     out: &mut Vec<OpenMark>,
     rows: &[Row<D>],
     causes: &[(u32, Cause)],
 ) -> Result<(), NoMemory>
-    ensures { OnOk result (out.new.items ≡ out.old.items ++ map mark_of (filter_map (mark_of_cause rows.now) causes.now)) }
+    ensures { OnOk result (out.new.items ≡ out.old.items ++ map open_mark (filter_map (expansion_mark rows.now) causes.now)) }
 {
     for noted in causes {
-        push_cause(out, rows, noted.0, noted.1)?;
+        push_expansion_mark(out, rows, noted.0, noted.1)?;
     }
     Ok(())
 }
 
 // The cause of a row that is not expanded.
-fn spent_cause<D>(row: &Row<D>) -> Option<Cause>
-    ensures { result ≡ spent_of row.now }
+fn cause_unexpanded<D: Domain>(row: &Row<D>) -> Option<Cause>
+    ensures { result ≡ cause_unexpanded row.now }
 {
     if row.is_expanded() {
         None
@@ -160,11 +169,14 @@ fn spent_cause<D>(row: &Row<D>) -> Option<Cause>
     }
 }
 
-fn push_spent<D>(out: &mut Vec<OpenMark>, rows: &[Row<D>]) -> Result<(), NoMemory>
-    ensures { OnOk result (out.new.items ≡ out.old.items ++ map mark_of (map (λ row. (row.location, Cause.Budget)) (filter (λ row. not row.expanded) rows.now))) }
+fn push_unexpanded_marks<D: Domain>(
+    out: &mut Vec<OpenMark>,
+    rows: &[Row<D>],
+) -> Result<(), NoMemory>
+    ensures { OnOk result (out.new.items ≡ out.old.items ++ map open_mark (unexpanded_marks Cause.Budget rows.now)) }
 {
     for row in rows {
-        push_mark(out, row.location(), spent_cause(row))?;
+        push_mark(out, row.location(), cause_unexpanded(row))?;
     }
     Ok(())
 }

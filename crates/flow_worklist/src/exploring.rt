@@ -1,18 +1,19 @@
-ghost use Rattle.std.specs.Prelude.{ℕ, ◌≡◌, ◌≤◌, ◌<◌, [], ◌∷◌, ◌++◌, Some, IfOk, OnOk, false, map, nat_eq, length, option_map, slice_get};
+ghost use Rattle.std.specs.Prelude.{ℕ, ◌≡◌, [], ◌∷◌, ◌++◌, Some, IfOk, OnOk, false, map, nat_eq, slice_get};
 ghost use Rattle.std.specs.HashMap.{get};
 ghost use Rattle.domain_laws.specs.Made.{values_of};
-ghost use Rattle.flow_log.specs.Log.{Row as LogRow, first_log, states_at, with_expansion};
-ghost use Rattle.abstract_state.specs.declared.state.State.{State as RowState};
-ghost use Rattle.flow_worklist.specs.Analysis.{analysis_of, image_log};
-ghost use Rattle.flow_worklist.specs.Exploring.{IsIndexed, IsIndexedBut, IsOf, log_in, notes_added, pair_added, pairs_added, row_with, rows_added};
+ghost use Rattle.flow_log.specs.Log.{first_log, row_after, with_notes, with_next_pair, with_next_pairs, with_row};
+ghost use Rattle.abstract_state.specs.State.{covers_state};
+ghost use Rattle.flow_worklist.specs.Analysis.{analysis_of, edge_by, image_log, widened_by};
+ghost use Rattle.flow_worklist.specs.Exploring.{IsIndexed, IsIndexedBut, IsOf, log_in};
+ghost use Rattle.flow_worklist.specs.PostOf.{IsPostOfRow};
 
 use crate::post::{Post, expanded};
 use crate::visits::Visits;
 use crate::{Log, Row};
-use abstract_state::State;
+use abstract_state::{Expansion, State};
 use bit_words::NoMemory;
 use domain_laws::Domain;
-use flow_log::{Cause, Edge, Label};
+use flow_log::{Cause, Edge};
 use image_loader::Image;
 use std::alloc::Global;
 use std::collections::HashMap;
@@ -28,7 +29,7 @@ pub struct Limits {
 
 // A log that grows, with what is kept of each location.
 #[derive(Drop)]
-struct Exploration<D> {
+struct Exploration<D: Domain> {
     rows: Vec<Row<D>>,
     edges: Vec<Edge>,
     causes: Vec<(u32, Cause)>,
@@ -42,12 +43,13 @@ impl<D: Domain> Exploration<D> {
         ensures log { IfOk result (λ e. log_in e ≡ first_log (analysis_of (values_of D.Domain.own D.eq) image.now limits.k) limits.budget) }
         ensures indexed { IfOk result (IsIndexed (values_of D.Domain.own D.eq)) }
     {
-        let mut rows = Vec::new(alloc);
-        rows.push(Row::new(None, image.entry(), State::start(), 0 < limits.budget))?;
-        let mut visits = HashMap::new(alloc);
+        let state = State::start(alloc, image)?;
         let mut first = Visits::new(alloc);
-        first.add(State::start())?;
+        first.add(0, &state)?;
+        let mut visits = HashMap::new(alloc);
         visits.insert(image.entry(), first)?;
+        let mut rows = Vec::new(alloc);
+        rows.push(Row::new(None, image.entry(), state, 0 < limits.budget))?;
         Ok(Exploration {
             rows,
             edges: Vec::new(alloc),
@@ -57,20 +59,26 @@ impl<D: Domain> Exploration<D> {
         })
     }
 
-    // The location and the state of a row.
-    fn row(&self, number: u32) -> Option<(u32, State<D>)>
-        ensures { result ≡ option_map (λ row. (row.location, row.state)) (slice_get self.now.rows.items number) }
+    // The expansion of the row of a number, where there is one.
+    fn expanded(
+        &self,
+        alloc: Global,
+        image: &Image,
+        k: u32,
+        number: u32,
+    ) -> Result<Option<Post<D>>, NoMemory>
+        ensures { IfOk result (IsPostOfRow (values_of D.Domain.own D.eq) image.now k (slice_get self.now.rows.items number)) }
     {
         match self.rows.get(number as usize) {
-            Some(row) => Some((row.location(), row.state().copy())),
-            None => None,
+            Some(row) => Ok(Some(expanded(alloc, image, k, row.location(), row.state())?)),
+            None => Ok(None),
         }
     }
 
     // What is kept of a location, taken out.
     fn take(&mut self, alloc: Global, at: u32) -> Visits<D>
         requires { IsIndexed (values_of D.Domain.own D.eq) self.old }
-        ensures taken { IsOf (values_of D.Domain.own D.eq) result (states_at at self.old.rows.items) }
+        ensures taken { IsOf (values_of D.Domain.own D.eq) result at self.old.rows.items }
         ensures others { (q : ℕ) → nat_eq at q ≡ false → get nat_eq self.new.visits q ≡ get nat_eq self.old.visits q }
         ensures rows { self.new.rows ≡ self.old.rows }
         ensures edges { self.new.edges ≡ self.old.edges }
@@ -85,7 +93,7 @@ impl<D: Domain> Exploration<D> {
 
     // What is kept of a location put back.
     fn put(&mut self, at: u32, visits: Visits<D>) -> Result<(), NoMemory>
-        requires taken { IsOf (values_of D.Domain.own D.eq) visits (states_at at self.old.rows.items) }
+        requires taken { IsOf (values_of D.Domain.own D.eq) visits at self.old.rows.items }
         requires others { IsIndexedBut (values_of D.Domain.own D.eq) at self.old }
         ensures indexed { OnOk result (IsIndexed (values_of D.Domain.own D.eq) self.new) }
         ensures rows { self.new.rows ≡ self.old.rows }
@@ -100,51 +108,52 @@ impl<D: Domain> Exploration<D> {
     // A row at a location of which this is kept.
     fn push_row(
         &mut self,
-        number: u32,
+        parent: u32,
         at: u32,
         state: State<D>,
         mut visits: Visits<D>,
         budget: u32,
     ) -> Result<(), NoMemory>
-        requires taken { IsOf (values_of D.Domain.own D.eq) visits (states_at at self.old.rows.items) }
+        requires taken { IsOf (values_of D.Domain.own D.eq) visits at self.old.rows.items }
         requires others { IsIndexedBut (values_of D.Domain.own D.eq) at self.old }
-        ensures rows { OnOk result (self.new.rows.items ≡ self.old.rows.items ++ row_with (Some number) at state budget self.old.rows.items ∷ []) }
+        ensures rows { OnOk result (self.new.rows.items ≡ self.old.rows.items ++ row_after budget self.old.rows.items (Some parent) at state ∷ []) }
         ensures indexed { OnOk result (IsIndexed (values_of D.Domain.own D.eq) self.new) }
         ensures edges { self.new.edges ≡ self.old.edges }
         ensures causes { self.new.causes ≡ self.old.causes }
         ensures writes { self.new.writes ≡ self.old.writes }
     {
-        let expanded = self.rows.len() < budget as usize;
-        let row = Row::new(Some(number), at, state.copy(), expanded);
+        let number = self.rows.len();
+        visits.add(number, &state)?;
+        let row = Row::new(Some(parent), at, state, number < budget as usize);
         self.rows.push(row)?;
-        visits.add(state)?;
         self.put(at, visits)
     }
 
     // A row at a location of which this is kept, unless one there covers it.
+    #[tactic(auto, unfolding(flow_log::specs::Log::with_row))]
     fn add_row(
         &mut self,
-        number: u32,
+        parent: u32,
         at: u32,
         state: State<D>,
         visits: Visits<D>,
         budget: u32,
     ) -> Result<(), NoMemory>
-        requires taken { IsOf (values_of D.Domain.own D.eq) visits (states_at at self.old.rows.items) }
+        requires taken { IsOf (values_of D.Domain.own D.eq) visits at self.old.rows.items }
         requires others { IsIndexedBut (values_of D.Domain.own D.eq) at self.old }
-        ensures rows { OnOk result (self.new.rows.items ≡ rows_added (values_of D.Domain.own D.eq) budget number at state self.old.rows.items) }
+        ensures rows { OnOk result (self.new.rows.items ≡ with_row (covers_state (values_of D.Domain.own D.eq)) budget parent at state self.old.rows.items) }
         ensures indexed { OnOk result (IsIndexed (values_of D.Domain.own D.eq) self.new) }
         ensures edges { self.new.edges ≡ self.old.edges }
         ensures causes { self.new.causes ≡ self.old.causes }
         ensures writes { self.new.writes ≡ self.old.writes }
     {
-        if visits.covers(&state) {
+        if visits.covers(&self.rows, &state) {
             return self.put(at, visits);
         }
-        self.push_row(number, at, state, visits, budget)
+        self.push_row(parent, at, state, visits, budget)
     }
 
-    // A next pair of a row.
+    // A next pair of a row, with its edge.
     fn add(
         &mut self,
         alloc: Global,
@@ -154,93 +163,67 @@ impl<D: Domain> Exploration<D> {
         limits: Limits,
     ) -> Result<(), NoMemory>
         requires { IsIndexed (values_of D.Domain.own D.eq) self.old }
-        ensures log { OnOk result (log_in self.new ≡ pair_added (values_of D.Domain.own D.eq) limits.k limits.budget number edge state (log_in self.old)) }
+        ensures log { OnOk result (log_in self.new ≡ with_next_pair (covers_state (values_of D.Domain.own D.eq)) (widened_by (values_of D.Domain.own D.eq) limits.k) limits.budget number edge (edge.to, state) (log_in self.old)) }
         ensures indexed { OnOk result (IsIndexed (values_of D.Domain.own D.eq) self.new) }
     {
         let visits = self.take(alloc, edge.to);
-        let widened = visits.widened(limits.k, state);
+        let widened = visits.widened(limits.k, state)?;
         self.add_row(number, edge.to, widened, visits, limits.budget)?;
         self.edges.push(edge)?;
         Ok(())
     }
 
     // The causes that the expansion of a row gave, and the ranges that it may write.
-    fn note(&mut self, number: u32, causes: &[Cause], writes: &[(u32, u32)]) -> Result<(), NoMemory>
+    fn note(&mut self, number: u32, expansion: &Expansion<D>) -> Result<(), NoMemory>
         requires { IsIndexed (values_of D.Domain.own D.eq) self.old }
-        ensures log { OnOk result (log_in self.new ≡ notes_added number causes.now writes.now (log_in self.old)) }
+        ensures log { OnOk result (log_in self.new ≡ with_notes number expansion.now (log_in self.old)) }
         ensures indexed { OnOk result (IsIndexed (values_of D.Domain.own D.eq) self.new) }
     {
-        push_causes(&mut self.causes, number, causes)?;
-        self.writes.extend_from_slice(writes)?;
+        push_causes(&mut self.causes, number, expansion.causes())?;
+        self.writes.extend_from_slice(expansion.writes())?;
         Ok(())
     }
 
-    // The next pairs of an instruction.
+    // The next pairs of a row, with their edges.
     fn follow(
         &mut self,
         alloc: Global,
         number: u32,
-        at: u32,
-        bytes: &[u8],
-        next: &[(u32, State<D>)],
+        post: Post<D>,
         limits: Limits,
     ) -> Result<(), NoMemory>
-        requires short { length bytes.now ≤ 15 }
-        requires indexed { IsIndexed (values_of D.Domain.own D.eq) self.old }
-        ensures log { OnOk result (log_in self.new ≡ pairs_added (values_of D.Domain.own D.eq) limits.k limits.budget number at bytes.now next.now (log_in self.old)) }
+        requires { IsIndexed (values_of D.Domain.own D.eq) self.old }
+        ensures log { OnOk result (log_in self.new ≡ with_next_pairs (covers_state (values_of D.Domain.own D.eq)) (widened_by (values_of D.Domain.own D.eq) limits.k) limits.budget number (edge_by post.at post.label) post.expansion.next (log_in self.old)) }
         ensures indexed { OnOk result (IsIndexed (values_of D.Domain.own D.eq) self.new) }
     {
-        for pair in next {
+        let from = post.at;
+        let label = post.label;
+        for pair in post.expansion.into_next() {
+            let (to, state) = pair;
             let edge = Edge {
-                from: at,
-                to: pair.0,
-                label: Label::code(bytes),
+                from,
+                to,
+                label: label.copy(alloc)?,
             };
-            self.add(alloc, number, edge, pair.1.copy(), limits)?;
+            self.add(alloc, number, edge, state, limits)?;
         }
         Ok(())
     }
 
-    // The row of a number, which is at this location with this state, expanded.
-    fn expand(
-        &mut self,
-        alloc: Global,
-        image: &Image,
-        number: u32,
-        at: u32,
-        state: &State<D>,
-        limits: Limits,
-    ) -> Result<(), NoMemory>
-        requires { IsIndexed (values_of D.Domain.own D.eq) self.old }
-        ensures log { OnOk result ((row : LogRow (RowState D)) → row.location ≡ at → row.state ≡ state.now → log_in self.new ≡ with_expansion (analysis_of (values_of D.Domain.own D.eq) image.now limits.k) limits.budget number row (log_in self.old)) }
-        ensures indexed { OnOk result (IsIndexed (values_of D.Domain.own D.eq) self.new) }
-    {
-        let post = expanded(alloc, image, at, state)?;
-        self.take_in(alloc, number, at, &post, limits)
-    }
-
-    // What an expansion gave.
+    // The expansion of the row of a number taken in.
     fn take_in(
         &mut self,
         alloc: Global,
         number: u32,
-        at: u32,
-        post: &Post<D>,
+        post: Post<D>,
         limits: Limits,
     ) -> Result<(), NoMemory>
         requires { IsIndexed (values_of D.Domain.own D.eq) self.old }
-        ensures log { OnOk result (log_in self.new ≡ pairs_added (values_of D.Domain.own D.eq) limits.k limits.budget number at post.now.bytes.items post.now.expansion.next (notes_added number post.now.expansion.causes post.now.expansion.writes (log_in self.old))) }
+        ensures log { OnOk result (log_in self.new ≡ with_next_pairs (covers_state (values_of D.Domain.own D.eq)) (widened_by (values_of D.Domain.own D.eq) limits.k) limits.budget number (edge_by post.at post.label) post.expansion.next (with_notes number post.expansion (log_in self.old))) }
         ensures indexed { OnOk result (IsIndexed (values_of D.Domain.own D.eq) self.new) }
     {
-        self.note(number, post.expansion.causes(), post.expansion.writes())?;
-        self.follow(
-            alloc,
-            number,
-            at,
-            post.bytes.as_slice(),
-            post.expansion.next(),
-            limits,
-        )
+        self.note(number, &post.expansion)?;
+        self.follow(alloc, number, post, limits)
     }
 
     fn finish(self) -> Log<D>
@@ -264,15 +247,16 @@ fn push_causes(out: &mut Vec<(u32, Cause)>, number: u32, causes: &[Cause]) -> Re
     Ok(())
 }
 
-/// The log of an image over a domain, of which the first `budget` rows are expanded.
+/// The log of an image over a domain, of which the first `budget` rows are expanded. Refuses want of memory alone.
 pub fn explore<D: Domain>(alloc: Global, image: &Image, limits: Limits) -> Result<Log<D>, NoMemory>
     ensures { IfOk result (λ log. log ≡ image_log (values_of D.Domain.own D.eq) image.now limits.k limits.budget) }
 {
     let mut exploration = Exploration::start(alloc, image, limits)?;
     for n in 0..limits.budget {
-        match exploration.row(n) {
+        let found = exploration.expanded(alloc, image, limits.k, n)?;
+        match found {
             None => return Ok(exploration.finish()),
-            Some((at, state)) => exploration.expand(alloc, image, n, at, &state, limits)?,
+            Some(post) => exploration.take_in(alloc, n, post, limits)?,
         }
     }
     Ok(exploration.finish())

@@ -5,12 +5,14 @@
 
 mod automaton;
 mod exploring;
-mod fixed;
-mod listed;
+mod fixed_code;
+mod location;
 mod log;
 mod post;
+mod site;
 mod visits;
 
 pub use automaton::automaton_of;
 pub use exploring::{Limits, explore};
+pub use fixed_code::has_fixed_code;
 pub use log::{Log, Row};

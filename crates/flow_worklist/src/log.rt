@@ -1,28 +1,29 @@
 ghost use Rattle.std.specs.Prelude.{◌≡◌, option_map, slice_get};
 
 use abstract_state::State;
+use domain_laws::Domain;
 use flow_log::{Cause, Edge};
 use std::marker::Model;
 
 /// A row of a log: a location with a state, the row from whose expansion it came, and whether it is expanded itself.
 #[derive(Drop)]
-pub struct Row<D> {
+pub struct Row<D: Domain> {
     parent: Option<u32>,
     location: u32,
     state: State<D>,
     expanded: bool,
 }
 
-impl<D> Model for Row<D> {
+impl<D: Domain> Model for Row<D> {
     ghost use Rattle.flow_log.specs.Log.{Row as LogRow};
-    ghost use Rattle.abstract_state.specs.declared.state.State.{State};
+    ghost use Rattle.abstract_state.specs.State.{Known};
 
-    ghost Value = { LogRow (State D) };
+    ghost Value = { LogRow (Known D) };
 
     ghost view = { λ r. record { parent = r.parent; location = r.location; state = r.state; expanded = r.expanded } };
 }
 
-impl<D> Row<D> {
+impl<D: Domain> Row<D> {
     /// A row with these parts.
     pub fn new(parent: Option<u32>, location: u32, state: State<D>, expanded: bool) -> Row<D>
         ensures { result ≡ record { parent = parent; location = location; state = state; expanded = expanded } }
@@ -66,14 +67,14 @@ impl<D> Row<D> {
 
 /// A log, by its rows, its edges, the causes by the number of the row, and the written ranges.
 #[derive(Drop)]
-pub struct Log<D> {
+pub struct Log<D: Domain> {
     pub(crate) rows: Vec<Row<D>>,
     pub(crate) edges: Vec<Edge>,
     pub(crate) causes: Vec<(u32, Cause)>,
     pub(crate) writes: Vec<(u32, u32)>,
 }
 
-impl<D> Model for Log<D> {
+impl<D: Domain> Model for Log<D> {
     ghost use Rattle.flow_worklist.specs.Analysis.{ImageLog};
 
     ghost Value = { ImageLog D };
@@ -81,7 +82,7 @@ impl<D> Model for Log<D> {
     ghost view = { λ l. record { rows = l.rows.items; edges = l.edges.items; causes = l.causes.items; writes = l.writes.items } };
 }
 
-impl<D> Log<D> {
+impl<D: Domain> Log<D> {
     /// The rows, in order.
     pub fn rows(&self) -> &[Row<D>]
         ensures { result.now ≡ self.now.rows }
@@ -112,7 +113,7 @@ impl<D> Log<D> {
 }
 
 // The location of the row of a number.
-pub(crate) fn location_at<D>(rows: &[Row<D>], number: u32) -> Option<u32>
+pub(crate) fn location_at<D: Domain>(rows: &[Row<D>], number: u32) -> Option<u32>
     ensures { result ≡ option_map (λ row. row.location) (slice_get rows.now number) }
 {
     match rows.get(number as usize) {

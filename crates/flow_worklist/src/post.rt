@@ -1,79 +1,64 @@
-ghost use Rattle.std.specs.Prelude.{◌≡◌, ◌≢◌, None, ◌≤◌, IfOk, length, take};
+ghost use Rattle.std.specs.Prelude.{◌≡◌, IfOk, take};
 ghost use Rattle.domain_laws.specs.Made.{values_of};
-ghost use Rattle.memory_map.specs.Image.{EXIT_PLACE, name_at};
-ghost use Rattle.flow_worklist.specs.Posted.{Posted};
+ghost use Rattle.memory_map.specs.Range.{code_run};
+ghost use Rattle.flow_worklist.specs.PostOf.{IsPostOf};
 
-use crate::listed::listed;
+use crate::site::{Site, site_at};
 use abstract_state::{Expansion, State};
-use arrayvec::ArrayVec;
 use bit_words::NoMemory;
 use domain_laws::Domain;
-use flow_log::Cause;
+use flow_log::{Cause, Label};
 use image_loader::Image;
-use memory_map::USER_END;
 use std::alloc::Global;
 use transfer_functions::expand_instr;
 
-/// The expansion of a row, and the bytes of the instruction there.
+/// The address of a row, its expansion, and the label of its steps.
 #[derive(Drop)]
-pub struct Post<D> {
+pub struct Post<D: Domain> {
+    pub at: u32,
     pub expansion: Expansion<D>,
-    pub bytes: ArrayVec<u8, 15>,
+    pub label: Label,
 }
 
-/// The expansion of a row at an address.
+/// The expansion of a row with a state at an address, with the label of its steps.
 pub fn expanded<D: Domain>(
     alloc: Global,
     image: &Image,
+    k: u32,
     at: u32,
     s: &State<D>,
 ) -> Result<Post<D>, NoMemory>
-    ensures { IfOk result (λ post. Posted (values_of D.Domain.own D.eq) image.now at s.now post.expansion post.bytes.items) }
+    ensures { IfOk result (IsPostOf (values_of D.Domain.own D.eq) image.now k at s.now) }
 {
-    if at == USER_END {
-        return Ok(Post {
-            expansion: Expansion::nothing(alloc),
-            bytes: ArrayVec::new(),
-        });
-    }
-    match image.name_at(at) {
-        Some(_) => Ok(Post {
-            expansion: Expansion::caused(alloc, Cause::NoStub)?,
-            bytes: ArrayVec::new(),
+    match site_at(image, at) {
+        Site::Exit => Ok(without_steps(at, Expansion::nothing(alloc))),
+        Site::Import => Ok(without_steps(at, Expansion::caused(alloc, Cause::NoStub)?)),
+        Site::Listed(i, size) => Ok(Post {
+            at,
+            expansion: expand_instr(alloc, image, at, &i, size, s, k)?,
+            label: code_label(image, at, size),
         }),
-        None => decoded(alloc, image, at, s),
+        Site::Unlisted => Ok(without_steps(at, Expansion::caused(alloc, Cause::Bytes)?)),
     }
 }
 
-// The expansion of a row at an address that has no name.
-fn decoded<D: Domain>(
-    alloc: Global,
-    image: &Image,
-    at: u32,
-    s: &State<D>,
-) -> Result<Post<D>, NoMemory>
-    requires runs { at ≢ EXIT_PLACE }
-    requires unnamed { name_at image.now at ≡ None }
-    ensures { IfOk result (λ post. Posted (values_of D.Domain.own D.eq) image.now at s.now post.expansion post.bytes.items) }
+// An expansion without a next pair, which needs no label.
+fn without_steps<D: Domain>(at: u32, expansion: Expansion<D>) -> Post<D>
+    ensures at { result.at ≡ at }
+    ensures expansion { result.expansion ≡ expansion }
 {
-    let bytes = image.fetch(at);
-    match listed(bytes.as_slice()) {
-        Some((i, len)) => Ok(Post {
-            expansion: expand_instr(alloc, image, at, &i, len, s)?,
-            bytes: first(bytes, len),
-        }),
-        None => Ok(Post {
-            expansion: Expansion::caused(alloc, Cause::Bytes)?,
-            bytes: ArrayVec::new(),
-        }),
+    Post {
+        at,
+        expansion,
+        label: Label::code(&[]),
     }
 }
 
-// The first `len` bytes.
-fn first(mut bytes: ArrayVec<u8, 15>, len: u8) -> ArrayVec<u8, 15>
-    requires { len ≤ length bytes.items }
-    ensures { result.items ≡ take len bytes.items }
+// The label of the first bytes of the image at an address.
+fn code_label(image: &Image, at: u32, size: u8) -> Label
+    ensures { result ≡ Label.Code (record { items = take size (code_run image.now.segments at) }) }
 {
-    bytes.truncate(usize::from(len));
-    bytes
+    let mut bytes = image.fetch(at);
+    bytes.truncate(usize::from(size));
+    Label::code(bytes.as_slice())
 }

@@ -1,54 +1,67 @@
-ghost use Rattle.std.specs.Prelude.{◌≡◌, ◌∷◌, ◌++◌, [], OnOk};
+ghost use Rattle.std.specs.Prelude.{◌≡◌, ◌∷◌, ◌++◌, [], IfOk, OnOk};
 ghost use Rattle.std.specs.List.{list_any};
 ghost use Rattle.domain_laws.specs.Made.{values_of};
-ghost use Rattle.abstract_state.specs.State.{covers_state};
 ghost use Rattle.abstract_state.specs.Widening.{seen_with, widened_state};
+ghost use Rattle.flow_worklist.specs.Exploring.{covers_at};
 
+use crate::Row;
 use abstract_state::{Seen, State};
 use bit_words::NoMemory;
 use domain_laws::Domain;
 use std::alloc::Global;
 
-/// The states of the rows at one location, in order, and the values that they hold.
+/// What is kept of a location: the numbers of its rows, in order, and the values that their states hold.
 #[derive(Drop)]
 pub struct Visits<D> {
-    pub states: Vec<State<D>>,
+    pub numbers: Vec<usize>,
     pub seen: Seen<D>,
 }
 
 impl<D: Domain> Visits<D> {
     /// No row yet; takes no memory.
     pub fn new(alloc: Global) -> Visits<D>
-        ensures states { result.states.items ≡ [] }
+        ensures numbers { result.numbers.items ≡ [] }
         ensures seen { result.seen ≡ [] }
     {
         Visits {
-            states: Vec::new(alloc),
+            numbers: Vec::new(alloc),
             seen: Seen::new(alloc),
         }
     }
 
-    /// Whether one of the states covers this one.
-    pub fn covers(&self, s: &State<D>) -> bool
-        ensures { result ≡ list_any (λ t. covers_state (values_of D.Domain.own D.eq) t s.now) self.now.states.items }
+    /// Whether one of these rows covers a state.
+    pub fn covers(&self, rows: &[Row<D>], s: &State<D>) -> bool
+        ensures { result ≡ list_any (covers_at (values_of D.Domain.own D.eq) rows.now s.now) self.now.numbers.items }
     {
-        self.states.iter().any(|t| t.covers(s))
+        self.numbers
+            .iter()
+            .any(|number| covers_at(rows, s, *number))
     }
 
-    /// A state widened by them.
-    pub fn widened(&self, k: u32, s: State<D>) -> State<D>
-        ensures { result ≡ widened_state (values_of D.Domain.own D.eq) k self.now.seen s }
+    /// A state widened by what they hold.
+    pub fn widened(&self, k: u32, s: State<D>) -> Result<State<D>, NoMemory>
+        ensures { IfOk result (λ widened. widened ≡ widened_state (values_of D.Domain.own D.eq) k self.now.seen s) }
     {
         s.widen(k, &self.seen)
     }
 
-    /// One more state.
-    pub fn add(&mut self, s: State<D>) -> Result<(), NoMemory>
-        ensures states { OnOk result (self.new.states.items ≡ self.old.states.items ++ s ∷ []) }
-        ensures seen { OnOk result (self.new.seen ≡ seen_with (values_of D.Domain.own D.eq) s self.old.seen) }
+    /// One row more, with its number and its state.
+    pub fn add(&mut self, number: usize, s: &State<D>) -> Result<(), NoMemory>
+        ensures numbers { OnOk result (self.new.numbers.items ≡ self.old.numbers.items ++ number ∷ []) }
+        ensures seen { OnOk result (self.new.seen ≡ seen_with (values_of D.Domain.own D.eq) s.now self.old.seen) }
     {
-        self.seen.add(&s)?;
-        self.states.push(s)?;
+        self.seen.add(s)?;
+        self.numbers.push(number)?;
         Ok(())
+    }
+}
+
+// Whether the row of a number covers a state.
+fn covers_at<D: Domain>(rows: &[Row<D>], s: &State<D>, number: usize) -> bool
+    ensures { result ≡ covers_at (values_of D.Domain.own D.eq) rows.now s.now number }
+{
+    match rows.get(number) {
+        Some(row) => row.state().covers(s),
+        None => false,
     }
 }

@@ -1,3 +1,6 @@
-pub mod Places
-pub mod OneSegment
-pub mod Starts
+mod Places
+mod Binds
+mod Gaps
+mod Starts
+mod Marks
+mod Few

@@ -4,7 +4,7 @@ use Rattle.image_loader.specs.Shown.{shown_of}
 use Rattle.image_loader.specs.declared.image.Image.TheInside.{Inside}
 
 abbrev pub shown : Inside → Image
-shown image = shown_of image.segments image.entry image.names.items
+shown i = shown_of i.segments i.unset i.entry i.format i.names i.align
 
 abbrev pub IsKept : Inside → Type 0
-IsKept image = IsLoaded (shown image)
+IsKept i = IsLoaded (shown i)

@@ -1,76 +1,49 @@
-ghost use Rattle.std.specs.Prelude.{◌≡◌, ◌≤◌, ◌↔◌, length, IsTrue, not, MatchResult, IfOk, IfErr};
-ghost use Rattle.memory_map.specs.Map.{range_of};
-ghost use Rattle.image_loader.specs.ElfHeader.{EHSIZE, e_phoff};
-ghost use Rattle.image_loader.specs.FormE.{has_mz_magic, IsFormE, HasFormEHeader, HasFormESegment, Refuses, image_of, segment_at};
+ghost use Rattle.std.specs.Prelude.{◌≡◌, ◌⊎◌, MatchResult, Ok, Err};
+ghost use Rattle.elf32_reader.specs.ElfFile.{read};
+ghost use Rattle.pe32_reader.specs.Image.{image_of};
+ghost use Rattle.image_loader.specs.Loading.{laid_out_by, load_of, of_elf, of_pe};
 
-use crate::elf_header::{
-    FILE_HEADER_SIZE, has_elf_magic, has_form_e_header, has_form_e_segment, program_headers,
-};
-use crate::{Image, LoadFault};
-use memory_map::{Bytes, MapFault, Perm, Segment, Segments, word_at};
-use std::alloc::{AllocError, Global};
+use crate::{LoadFault, Loaded};
+use elf32_reader::{ElfFault, has_elf_magic, read_elf};
+use pe_headers::{PeFault, lacks_magic};
+use pe32_reader::read_pe;
+use std::alloc::Global;
 
-fn has_mz_magic(bytes: &[u8]) -> bool
-    ensures { result ≡ has_mz_magic bytes.now }
+fn load_elf(alloc: Global, bytes: &[u8]) -> Result<Loaded, LoadFault>
+    ensures { MatchResult result (λ l. of_elf (read bytes.now) ≡ Ok (laid_out_by l)) (λ e. (e ≡ LoadFault.Memory) ⊎ (of_elf (read bytes.now) ≡ Err e)) }
 {
-    bytes.starts_with(b"MZ")
-}
-
-fn is_of_form_e(bytes: &[u8]) -> bool
-    requires { EHSIZE ≤ length bytes.now }
-    ensures yes { IsTrue result → HasFormEHeader bytes.now × HasFormESegment bytes.now (e_phoff bytes.now) }
-    ensures no { IsTrue (not result) → ¬ IsFormE bytes.now }
-{
-    has_form_e_header(bytes) && has_form_e_segment(bytes, program_headers(bytes))
-}
-
-fn segment_of(alloc: Global, bytes: &[u8]) -> Result<Segment, AllocError>
-    requires { IsFormE bytes.now }
-    ensures { IfOk result (λ segment. range_of segment ≡ segment_at bytes.now (e_phoff bytes.now)) }
-{
-    let at = program_headers(bytes);
-    let offset = word_at(bytes, at + 4) as usize;
-    let size = word_at(bytes, at + 16) as usize;
-    let held = bytes[offset..offset + size].to_vec(alloc)?;
-    Ok(Segment {
-        low: word_at(bytes, at + 8),
-        bytes: Bytes::from_vec(held),
-        perm: Perm::new(false, true),
-    })
-}
-
-fn lay_out(alloc: Global, bytes: &[u8]) -> Result<Image, LoadFault>
-    requires { IsFormE bytes.now }
-    ensures { MatchResult result (λ image. image ≡ image_of bytes.now) (λ fault. fault ≡ LoadFault.Memory) }
-{
-    let mut list = Vec::new(alloc);
-    list.push(segment_of(alloc, bytes)?)?;
-    match Segments::new(list) {
-        Ok(segments) => Ok(Image::new(segments, word_at(bytes, 24), Vec::new(alloc))),
+    match read_elf(alloc, bytes) {
+        Ok(file) => Ok(Loaded::Elf(file)),
         Err(fault) => match fault {
-            MapFault::Memory => Err(LoadFault::Memory),
-            _ => unreachable!(),
+            ElfFault::Memory => Err(LoadFault::Memory),
+            _ => Err(LoadFault::Elf(fault)),
         },
     }
 }
 
-/// The image of a file, which is of the one form that is read today.
-pub fn load(alloc: Global, bytes: &[u8]) -> Result<Image, LoadFault>
-    ensures loaded { IfOk result (λ image. IsFormE bytes.now × (image ≡ image_of bytes.now)) }
-    ensures refused { IfErr result (λ fault. Refuses fault bytes.now) }
+fn load_pe(alloc: Global, bytes: &[u8]) -> Result<Loaded, LoadFault>
+    ensures { MatchResult result (λ l. of_pe (image_of bytes.now) ≡ Ok (laid_out_by l)) (λ e. (e ≡ LoadFault.Memory) ⊎ (of_pe (image_of bytes.now) ≡ Err e)) }
 {
-    if !has_elf_magic(bytes) {
-        return Err(if has_mz_magic(bytes) {
-            LoadFault::NotBuilt
-        } else {
-            LoadFault::Unknown
-        });
+    match read_pe(alloc, bytes) {
+        Ok(file) => Ok(Loaded::Pe(file)),
+        Err(fault) => match fault {
+            PeFault::Memory => Err(LoadFault::Memory),
+            _ => Err(LoadFault::Pe(fault)),
+        },
     }
-    if bytes.len() < FILE_HEADER_SIZE {
-        return Err(LoadFault::Short);
+}
+
+/// What a file lays out, or its first fault: a file that begins with 7F, `ELF` is read as an ELF file, else one that begins
+/// with `MZ` as a PE file, and any other is `Unknown`.
+#[tactic(auto, unfolding(crate::specs::Loading::load_of))]
+pub fn load(alloc: Global, bytes: &[u8]) -> Result<Loaded, LoadFault>
+    ensures { MatchResult result (λ l. load_of bytes.now ≡ Ok (laid_out_by l)) (λ e. (e ≡ LoadFault.Memory) ⊎ (load_of bytes.now ≡ Err e)) }
+{
+    if has_elf_magic(bytes) {
+        return load_elf(alloc, bytes);
     }
-    if !is_of_form_e(bytes) {
-        return Err(LoadFault::NotBuilt);
+    if lacks_magic(bytes) {
+        return Err(LoadFault::Unknown);
     }
-    lay_out(alloc, bytes)
+    load_pe(alloc, bytes)
 }

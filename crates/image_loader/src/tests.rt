@@ -1,29 +1,11 @@
+ghost use Rattle.std.specs.Prelude.{◌≤◌, length};
+
 use super::*;
-use std::alloc::{AllocError, Global};
+use demo_images::{Import, form_d, form_e, form_p};
+use memory_map::Format;
+use std::alloc::Global;
 use std::test::Fail;
-
-const ENTRY: [u8; 4] = [0x00, 0x80, 0x04, 0x08];
-
-// The file of the loop `EB FE`: the file header, one program header and two bytes of code.
-fn self_jump(alloc: Global) -> Result<Vec<u8>, AllocError> {
-    let mut file = Vec::new(alloc);
-    for part in [
-        b"\x7FELF\x01\x01\x01\0\0\0\0\0\0\0\0\0".as_slice(),
-        b"\x02\0\x03\0\x01\0\0\0",
-        &ENTRY,
-        b"\x34\0\0\0\0\0\0\0\0\0\0\0\x34\0\x20\0\x01\0\0\0\0\0\0\0",
-        b"\x01\0\0\0\x54\0\0\0",
-        &ENTRY,
-        &ENTRY,
-        b"\x02\0\0\0\x02\0\0\0\x05\0\0\0\x01\0\0\0",
-        b"\xEB\xFE",
-    ] {
-        for b in part {
-            file.push(*b)?;
-        }
-    }
-    Ok(file)
-}
+use stub_file::{Stubs, read_stubs};
 
 fn put(file: &mut [u8], at: usize, bytes: &[u8]) {
     for (place, b) in file.iter_mut().skip(at).zip(bytes.iter()) {
@@ -31,6 +13,7 @@ fn put(file: &mut [u8], at: usize, bytes: &[u8]) {
     }
 }
 
+// The number of a file's first fault, or 0.
 fn number(alloc: Global, file: &[u8]) -> Option<u32> {
     match load(alloc, file) {
         Ok(_) => Some(0),
@@ -38,85 +21,175 @@ fn number(alloc: Global, file: &[u8]) -> Option<u32> {
     }
 }
 
-#[test]
-fn the_loop_is_loaded(rt: HostRuntime) -> Result<(), Fail> {
-    let file = self_jump(rt.alloc())?;
-    assert_eq!(rt; file.len(), 86);
-    match load(rt.alloc(), &file) {
-        Ok(image) => {
-            assert_eq!(rt; image.entry(), 0x0804_8000);
-            assert_eq!(rt;
-                image.fetch(0x0804_8000).as_slice(),
-                [0xEB, 0xFE].as_slice()
-            );
-            assert_eq!(rt; image.fetch(0x0804_8001).as_slice(), [0xFE].as_slice());
-            assert!(rt; image.fetch(0x0804_8002).is_empty());
-            assert!(rt; image.name_at(0xF000_0010).is_none());
-            Ok(())
-        }
-        Err(_) => Err(Fail::from("refused")),
+// The loop `EB FE` at 08048000: the program header from 52 on, the code from 84 on.
+fn self_jump(alloc: Global) -> Result<Vec<u8>, Fail> {
+    match form_e(alloc, &[0xEB, 0xFE], 5) {
+        Ok(file) => Ok(file),
+        Err(_) => Err(Fail::from("no memory")),
+    }
+}
+
+// A PE file: the optional header from 88 on, the import descriptor from 289 on.
+fn pe_exit(alloc: Global) -> Result<Vec<u8>, Fail> {
+    match form_p(alloc, &[0x6A, 0, 0xFF, 0x15, 0x34, 0x20, 0x40, 0, 0xCC]) {
+        Ok(file) => Ok(file),
+        Err(_) => Err(Fail::from("no memory")),
     }
 }
 
 #[test]
-fn fronts_are_refused(rt: HostRuntime) -> Result<(), Fail> {
-    let file = self_jump(rt.alloc())?;
-    for n in 0..file.len() {
-        let want = if n < 4 {
-            200
-        } else if n < 52 {
-            1
-        } else {
-            300
-        };
-        assert_eq!(rt; number(rt.alloc(), &file[..n]), Some(want), "{n} bytes");
+fn fronts_of_files_have_the_first_fault(rt: HostRuntime) -> Result<(), Fail> {
+    let alloc = rt.alloc();
+    let elf = self_jump(alloc)?;
+    let pe = pe_exit(alloc)?;
+    for (end, elf_fault, pe_fault) in [
+        (1, 200, 200),
+        (3, 200, 101),
+        (51, 1, 101),
+        (63, 8, 101),
+        (83, 8, 103),
+        (85, 9, 103),
+        (87, 0, 103),
+        (199, 0, 105),
+        (279, 0, 106),
+        (372, 0, 107),
+        (373, 0, 0),
+    ] {
+        let elf_end = elf.len().min(end);
+        assert_eq!(rt;
+            number(alloc, &elf[..elf_end]),
+            Some(elf_fault),
+            "{end} bytes"
+        );
+        let pe_end = pe.len().min(end);
+        assert_eq!(rt; number(alloc, &pe[..pe_end]), Some(pe_fault), "{end} bytes");
     }
-    assert_eq!(rt; number(rt.alloc(), b"MZ"), Some(300));
-    assert_eq!(rt; number(rt.alloc(), b"ZM"), Some(200));
+    assert_eq!(rt; number(alloc, b""), Some(200));
     assert_eq!(rt; fault_number(&LoadFault::Memory), None);
     Ok(())
 }
 
 #[test]
 fn each_field_counts(rt: HostRuntime) -> Result<(), Fail> {
+    let alloc = rt.alloc();
     for (at, bytes, want) in [
-        (0, b"\x7E".as_slice(), 200),
-        (0, b"MZ", 300),
-        (4, b"\x02", 300),
-        (5, b"\x02", 300),
-        (6, b"\x02", 0),
-        (16, b"\x03", 300),
-        (17, b"\x02", 300),
-        (18, b"\x3E", 300),
-        (24, b"\xFF\xFF\xFF\xFF", 0),
-        (28, b"\xFF\xFF\xFF\xFF", 300),
-        (28, b"\x37", 300),
-        (32, b"\x37", 0),
-        (42, b"\x28", 300),
-        (44, b"\0", 300),
-        (44, b"\x40", 300),
-        (52, b"\x02", 300),
-        (56, b"\xFF\xFF\xFF\xFF", 300),
-        (56, b"\x55", 300),
-        (56, b"\x50", 0),
-        (60, b"\xFF\x0F\0\0", 300),
-        (60, b"\0\x10\0\0", 0),
-        (60, b"\xFF\xFF\xFF\xEF", 300),
+        (28, b"\xFF\xFF\xFF\xFF".as_slice(), 8),
+        (44, b"\x40", 8),
+        (44, b"\x41", 7),
+        (56, b"\xFF\xFF\xFF\xFF", 9),
+        (68, b"\xFF\xFF\xFF\xFF", 9),
+        (68, b"\x03", 9),
+        (72, b"\x01", 10),
+        (60, b"\xFF\x0F\0\0", 11),
+        (60, b"\xFF\xFF\xFF\xEF", 11),
+        (60, b"\xFF\xFF\xFF\xFF", 11),
         (60, b"\xFE\xFF\xFF\xEF", 0),
-        (60, b"\xFF\xFF\xFF\xFF", 300),
-        (64, b"\0", 0),
-        (68, b"\x01", 300),
-        (68, b"\xFF\xFF\xFF\xFF\xFF\xFF\xFF\xFF", 300),
-        (68, b"\x01\0\0\0\x01", 0),
-        (68, b"\0\0\0\0\0", 300),
-        (72, b"\x03", 300),
-        (76, b"\x07", 300),
-        (76, b"\x04", 300),
-        (80, b"\0", 0),
+        (72, b"\xFF\xFF\xFF\xFF", 11),
+        (72, b"\x01\0\0\x04", 13),
+        (72, b"\0\0\0\x04", 0),
+        (24, b"\xFF\xFF\xFF\xFF", 0),
     ] {
-        let mut file = self_jump(rt.alloc())?;
+        let mut file = self_jump(alloc)?;
         put(&mut file, at, bytes);
-        assert_eq!(rt; number(rt.alloc(), &file), Some(want), "{bytes:?} at {at}");
+        assert_eq!(rt; number(alloc, &file), Some(want), "{bytes:?} at {at}");
     }
+    for (at, bytes, want) in [
+        (60, b"\xFF\xFF\xFF\xFF".as_slice(), 103),
+        (116, b"\0\0\0\0", 108),
+        (116, b"\0\xF0\xFF\xEF", 108),
+        (289, b"\xFF\xFF\xFF\xFF", 111),
+        (305, b"\0\0\0\0", 111),
+        (301, b"\x54\x20\0\0", 112),
+    ] {
+        let mut file = pe_exit(alloc)?;
+        put(&mut file, at, bytes);
+        assert_eq!(rt; number(alloc, &file), Some(want), "{bytes:?} at {at}");
+    }
+    Ok(())
+}
+
+fn stubs_of(alloc: Global, text: &[u8]) -> Result<Stubs, Fail> {
+    match read_stubs(alloc, text) {
+        Ok(stubs) => Ok(stubs),
+        Err(_) => Err(Fail::from("no stubs")),
+    }
+}
+
+fn bound(alloc: Global, file: &[u8], stubs: &[u8]) -> Result<Image, Fail> {
+    let stubs = stubs_of(alloc, stubs)?;
+    match load(alloc, file) {
+        Ok(loaded) => match loaded.bind(alloc, &stubs) {
+            Ok(image) => Ok(image),
+            Err(_) => Err(Fail::from("no memory")),
+        },
+        Err(_) => Err(Fail::from("refused")),
+    }
+}
+
+const STUB: &[u8] = b"stack_align = 64\n[stub.f]\nargs = 0\nreply = 'any'\n";
+
+// Seven bytes of code and the import `f`: its slot is the word at 09000000, its relocation is from 159 on.
+#[test]
+fn elf_files_are_bound_to_stubs(rt: HostRuntime) -> Result<(), Fail> {
+    let alloc = rt.alloc();
+    for (weak, kind, stubs, slot, unset, zero) in [
+        (false, 7, b"".as_slice(), [0x10, 0, 0, 0xF0], 0, Some(false)),
+        (false, 7, STUB, [0x10, 0, 0, 0xF0], 0, Some(false)),
+        (true, 7, b"", [0, 0, 0, 0], 0, Some(true)),
+        (true, 7, STUB, [0x10, 0, 0, 0xF0], 0, Some(false)),
+        (false, 1, b"", [0x10, 0, 0, 0xF0], 0, Some(false)),
+        (false, 2, b"", [0x10, 0, 0, 0xE7], 0, Some(false)),
+        (false, 10, b"", [0, 0, 0, 0], 1, None),
+        (false, 8, b"", [0, 0, 0, 0], 0, None),
+    ] {
+        let names = [Import::new(b"f", weak)];
+        let code = [0xFF, 0x15, 0, 0, 0, 9, 0xF4];
+        let mut file = match form_d(alloc, &code, &names) {
+            Ok(file) => file,
+            Err(_) => return Err(Fail::from("no memory")),
+        };
+        put(&mut file, 163, &[kind]);
+        let image = bound(alloc, &file, stubs)?;
+        for (i, b) in slot.iter().enumerate() {
+            assert_eq!(rt;
+                image.segments().byte_at(0x0900_0000 + i as u32),
+                Some(*b),
+                "{kind}"
+            );
+        }
+        assert_eq!(rt; image.unset().as_slice().len(), unset, "{kind}");
+        assert_eq!(rt; image.names().first().map(|n| n.zero), zero, "{kind}");
+        assert_eq!(rt;
+            image.name_at(0xF000_0010).is_some(),
+            zero.is_some(),
+            "{kind}"
+        );
+        assert_eq!(rt; image.align(), if stubs.is_empty() { 16 } else { 64 });
+        assert!(rt; image.format() == Format::Elf);
+    }
+    Ok(())
+}
+
+#[test]
+fn files_are_loaded_at_their_addresses(rt: HostRuntime) -> Result<(), Fail> {
+    let alloc = rt.alloc();
+    let mut file = self_jump(alloc)?;
+    put(&mut file, 16, &[3]);
+    let image = bound(alloc, &file, b"")?;
+    assert_eq!(rt; image.entry(), 0x0844_8000);
+    assert_eq!(rt;
+        image.fetch(0x0844_8000).as_slice(),
+        [0xEB, 0xFE].as_slice()
+    );
+    let image = bound(alloc, &pe_exit(alloc)?, b"")?;
+    assert_eq!(rt; image.entry(), 0x0040_1000);
+    assert_eq!(rt; image.segments().as_slice().len(), 3);
+    assert_eq!(rt; image.segments().byte_at(0x0040_2034), Some(0x10));
+    assert_eq!(rt; image.segments().byte_at(0x0040_2038), Some(0x20));
+    assert_eq!(rt; image.name_at(0xF000_0010), Some(b"ExitProcess".as_slice()));
+    assert_eq!(rt; image.name_at(0xF000_0020), Some(b"k.dll#7".as_slice()));
+    assert!(rt; image.name_at(0xF000_0030).is_none());
+    assert_eq!(rt; image.align(), 4);
+    assert!(rt; image.format() == Format::Pe);
     Ok(())
 }

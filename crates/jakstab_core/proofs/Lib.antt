@@ -1,4 +1,4 @@
 pub mod Lines
 pub mod Covering
 pub mod Saying
-pub mod WordLemmas
+pub mod Finding

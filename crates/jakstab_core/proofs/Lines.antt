@@ -6,8 +6,9 @@ use Rattle.flow_log.proofs.Members.{Contains-cases, Contains-none}
 use Rattle.automaton_text.specs.declared.automaton.Automaton.{Automaton}
 use Rattle.automaton_text.specs.declared.automaton.Location.{Location}
 use Rattle.automaton_text.specs.declared.automaton.OpenMark.{OpenMark}
-use Rattle.automaton_text.specs.Text.{newline, header_line, entry_line, loc_line, edge_line, open_line, end_line, text_of, space, suffix_of, label_text, cause_text}
-use Rattle.outside_io.specs.Hex.{hex8}
+use Rattle.automaton_text.specs.Text.{header_line, entry_line, loc_line, edge_line, open_line, end_line, text_of, suffix_of, label_text, cause_text}
+use Rattle.text_fields.specs.Hex.{hex8}
+use Rattle.text_fields.specs.Line.{newline, space}
 use Rattle.jakstab_core.specs.Headline.{IsLineStart, HasLine}
 
 -- a text ends by a newline

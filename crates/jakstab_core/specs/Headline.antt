@@ -6,14 +6,15 @@ use Rattle.memory_map.specs.Start.{Start}
 use Rattle.flow_log.specs.declared.cause.Cause.{Cause}
 use Rattle.flow_log.specs.Run.{IsRun}
 use Rattle.x86_machine.specs.Machine.{machine_of, edge_of}
-use Rattle.automaton_text.specs.Text.{newline, edge_line, open_line, text_of}
+use Rattle.automaton_text.specs.Text.{edge_line, open_line, text_of}
+use Rattle.text_fields.specs.Line.{newline}
 use Rattle.domain_laws.specs.Laws.{Values}
 use Rattle.domain_laws.specs.FlatLaws.{flat}
 use Rattle.bounded_values.specs.BoundedLaws.{bounded}
 use Rattle.flow_worklist.specs.Analysis.{image_log, automaton_of}
-use Rattle.jakstab_core.specs.declared.task.DomainName.{DomainName}
-use Rattle.jakstab_core.specs.declared.task.DomainName.TheVariants.{Flat, Bounded}
-use Rattle.jakstab_core.specs.declared.task.Options.{Options}
+use Rattle.command_words.specs.declared.task.DomainName.{DomainName}
+use Rattle.command_words.specs.declared.task.DomainName.TheVariants.{Flat, Bounded}
+use Rattle.command_words.specs.declared.task.Options.{Options}
 
 -- nothing, or whole lines
 abbrev pub IsLineStart : List ℕ → Type 0

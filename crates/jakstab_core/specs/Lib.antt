@@ -1,6 +1,5 @@
-pub mod Words
-pub mod Given
 pub mod StatusLine
 pub mod Headline
 pub mod Tasks
 pub mod Says
+pub mod Due

@@ -1,150 +1,213 @@
--- What each status of the top call says of the call.
-use Rattle.std.specs.Prelude.{ℕ, ◌≡◌, ◌≤◌, ◌<◌, ◌⊎◌, ◌↔◌, List, length, Option, None, Some, IsSomeAnd}
+-- What the top call keeps, by its status.
+use Rattle.std.specs.Prelude.{ℕ, ◌≡◌, ◌≤◌, ◌<◌, ◌⊎◌, List, length, Option, None, Some, Ok, IsSomeAnd}
 use Rattle.outside_io.specs.Outside.{Contents, WhereHeld, IsWhole, Rose, Gained, GainedPrefix}
-use Rattle.image_loader.specs.declared.fault.LoadFault.{LoadFault}
-use Rattle.image_loader.specs.FaultNumber.{number_of}
-use Rattle.image_loader.specs.FormE.{IsFormE, Refuses, image_of}
+use Rattle.memory_map.specs.Image.{Image, IsLoaded}
+use Rattle.stub_file.specs.declared.fault.StubFault.{StubFault}
+use Rattle.stub_file.specs.declared.fault.StubFault.TheVariants as stub_faults
+use Rattle.stub_file.specs.Stubs.{StatedStubs, no_stubs, States, Refuses}
+use Rattle.image_loader.specs.Loading.{LaidOut, load_of, first_fault}
+use Rattle.image_loader.specs.Binding.{Loads}
+use Rattle.flow_worklist.specs.FixedCode.{HasFixedCode}
+use Rattle.jakstab_core.specs.declared.status.Input.{Input}
 use Rattle.jakstab_core.specs.declared.status.Input.TheVariants as inputs
 use Rattle.jakstab_core.specs.declared.status.Status.{Status}
-use Rattle.jakstab_core.specs.declared.status.Status.TheVariants.{Done, Usage, ReadFault, TooLong, WriteFault, ImageRefused, Memory}
-use Rattle.jakstab_core.specs.declared.task.Task.{Task}
-use Rattle.jakstab_core.specs.Words.{Command, command_of}
+use Rattle.jakstab_core.specs.declared.status.Status.TheVariants.{Done, Usage, ReadFault, TooLong, WriteFault, ImageRefused, StubsRefused, Memory}
+use Rattle.command_words.specs.declared.task.Task.{Task}
+use Rattle.command_words.specs.declared.task.Task.TheVariants.{Recover, List as ListImage, Decode}
+use Rattle.jakstab_core.specs.StatusLine.{status_line}
+use Rattle.command_words.specs.Words.{Command, command_of}
 use Rattle.jakstab_core.specs.Tasks.{IsTextOf, Covers}
 
--- an image file has at most so many bytes
+-- an image file has at most so many bytes, and a stub file
 abbrev pub IMAGE_LIMIT : ℕ
 IMAGE_LIMIT = 16777216
 
--- what the status of a command says of the file's bytes, and of `out` and its count before and after
-pub record PerformsDone (task : Task) (bytes : List ℕ) (before after : Option (List ℕ)) : Type 0 where
-  pub form : IsFormE bytes
-  pub text : List ℕ
-  pub is : IsTextOf task (image_of bytes) text
-  pub gained : Gained before after text
+abbrev pub STUBS_LIMIT : ℕ
+STUBS_LIMIT = 1048576
 
-pub record PerformsRefused (bytes : List ℕ) (n : ℕ) (before after : Option (List ℕ)) : Type 0 where
-  pub fault : LoadFault
-  pub numbered : number_of fault ≡ Some n
-  pub refused : Refuses fault bytes
-  pub nothing : after ≡ before
+-- the number that tells that an image is not explored
+abbrev pub UNEXPLORED : ℕ
+UNEXPLORED = 300
 
-pub record PerformsPart (task : Task) (bytes : List ℕ) (before after : Option (List ℕ)) (faults_before faults_after : ℕ) : Type 0 where
-  pub form : IsFormE bytes
-  pub rose : Rose faults_before faults_after
-  pub text : List ℕ
-  pub is : IsTextOf task (image_of bytes) text
-  pub part : GainedPrefix before after text
+-- an image is explored only where its code cannot change
+abbrev pub IsExplored : Task → Image → Type 0
+IsExplored (Recover options) image = HasFixedCode image
+IsExplored ListImage image = Unit {0}
+IsExplored (Decode address count) image = Unit {0}
 
-abbrev pub Performs : Status → Task → List ℕ → Option (List ℕ) → Option (List ℕ) → ℕ → ℕ → Type 0
-Performs Done task bytes before after faults_before faults_after = PerformsDone task bytes before after
-Performs (ImageRefused n) task bytes before after faults_before faults_after = PerformsRefused bytes n before after
-Performs WriteFault task bytes before after faults_before faults_after = PerformsPart task bytes before after faults_before faults_after
-Performs Memory task bytes before after faults_before faults_after = after ≡ before
-Performs _ task bytes before after faults_before faults_after = ⊥
+-- what a shelf tells, and its counts of faults by name, before a call and after it
+pub record Reading : Type 0 where
+  pub held : Option Contents
+  pub faults_before : List ℕ → ℕ
+  pub faults_after : List ℕ → ℕ
 
--- a call: its words, what the shelf tells and its counts of faults by name, and what `out` tells with its count
+-- what a call asks: its words, and of the shelf
 pub record Call : Type 0 where
   pub words : List (List ℕ)
-  pub held : Option Contents
-  pub read_faults_before : List ℕ → ℕ
-  pub read_faults_after : List ℕ → ℕ
-  pub out_before : Option (List ℕ)
-  pub out_after : Option (List ℕ)
-  pub write_faults_before : ℕ
-  pub write_faults_after : ℕ
+  pub shelf : Reading
 
-abbrev pub WroteNothing : Call → Type 0
-WroteNothing c = c.out_after ≡ c.out_before
+-- what a sink tells, and its count of faults, before a call and after it
+pub record Gain : Type 0 where
+  pub before : Option (List ℕ)
+  pub after : Option (List ℕ)
+  pub faults_before : ℕ
+  pub faults_after : ℕ
 
 -- the words are a command on an image, whose whole content is these bytes
-pub record IsRead (c : Call) (bytes : List ℕ) : Type 0 where
+pub record IsRead (a : Call) (bytes : List ℕ) : Type 0 where
   pub command : Command
-  pub accepted : command_of c.words ≡ Some command
-  pub content : IsWhole c.held command.image IMAGE_LIMIT bytes
+  pub accepted : command_of a.words ≡ Some command
+  pub content : IsWhole a.shelf.held command.image IMAGE_LIMIT bytes
 
--- the image was read and is one that is loaded
-pub record HasImage (c : Call) : Type 0 where
+-- the stubs of a command: those that its stub file states, or none
+abbrev pub AreStubs : Option Contents → Option (List ℕ) → StatedStubs → Type 0
+AreStubs held None stubs = stubs ≡ no_stubs
+AreStubs held (Some name) stubs = (text : List ℕ) × (IsWhole held name STUBS_LIMIT text × States text stubs)
+
+-- an image is that of the bytes with the stubs, and is explored where the task is to explore it
+pub record IsTaken (task : Task) (bytes : List ℕ) (stubs : StatedStubs) (image : Image) : Type 0 where
+  pub loads : Loads bytes stubs image
+  pub loaded : IsLoaded image
+  pub explored : IsExplored task image
+
+-- the image was read with its stubs, and is one that is taken
+pub record HasImage (a : Call) : Type 0 where
   pub bytes : List ℕ
-  pub read : IsRead c bytes
-  pub form : IsFormE bytes
+  pub read : IsRead a bytes
+  pub stubs : StatedStubs
+  pub stated : AreStubs a.shelf.held read.command.stubs stubs
+  pub image : Image
+  pub taken : IsTaken read.command.task bytes stubs image
 
-pub record SaysDone (c : Call) : Type 0 where
-  pub image : HasImage c
-  -- `out` gained exactly the command's text: for `recover` that of the automaton of the image's log
+-- a text is due: it is the command's, for `recover` that of the automaton of the image's log
+pub record IsDue (a : Call) (text : List ℕ) : Type 0 where
+  pub has : HasImage a
+  pub is : IsTextOf has.read.command.task has.stubs has.image text
+
+pub record SaysDone (a : Call) (out : Gain) : Type 0 where
+  -- `out` gained exactly the command's text
   pub text : List ℕ
-  pub is : IsTextOf image.read.command.task (image_of image.bytes) text
-  pub gained : Gained c.out_before c.out_after text
+  pub due : IsDue a text
+  pub gained : Gained out.before out.after text
   -- and no run leaves that automaton before a location printed open
-  pub covers : Covers image.read.command.task (image_of image.bytes) text
+  pub covers : Covers due.has.read.command.task due.has.image text
 
-pub record SaysUsage (c : Call) : Type 0 where
-  pub refused : command_of c.words ≡ None
-  pub nothing : WroteNothing c
-
-pub record SaysReadFault (c : Call) : Type 0 where
-  pub command : Command
-  pub accepted : command_of c.words ≡ Some command
-  pub rose : Rose (c.read_faults_before command.image) (c.read_faults_after command.image)
-  pub nothing : WroteNothing c
-
-pub record SaysTooLong (c : Call) : Type 0 where
-  pub command : Command
-  pub accepted : command_of c.words ≡ Some command
-  pub longer : WhereHeld c.held command.image (λ held. IsSomeAnd held (λ content. IMAGE_LIMIT < length content))
-  pub nothing : WroteNothing c
-
-pub record SaysImageRefused (c : Call) (n : ℕ) : Type 0 where
-  pub bytes : List ℕ
-  pub read : IsRead c bytes
-  pub fault : LoadFault
-  pub numbered : number_of fault ≡ Some n
-  pub refused : Refuses fault bytes
-  pub nothing : WroteNothing c
-
-pub record SaysWriteFault (c : Call) : Type 0 where
-  pub image : HasImage c
-  pub rose : Rose c.write_faults_before c.write_faults_after
+pub record SaysWriteFault (a : Call) (out : Gain) : Type 0 where
+  pub rose : Rose out.faults_before out.faults_after
   pub text : List ℕ
-  pub is : IsTextOf image.read.command.task (image_of image.bytes) text
-  pub part : GainedPrefix c.out_before c.out_after text
+  pub due : IsDue a text
+  pub part : GainedPrefix out.before out.after text
 
--- want of memory is free, but it comes before the first byte is written
-pub record SaysMemory (c : Call) : Type 0 where
+-- the name of a file was asked for, and the count of faults for it rose; or what is held under it is too long
+abbrev pub IsUnread : Reading → List ℕ → Type 0
+IsUnread s name = Rose (s.faults_before name) (s.faults_after name)
+
+abbrev pub IsTooLong : Option Contents → ℕ → List ℕ → Type 0
+IsTooLong held limit name = WhereHeld held name (λ there. IsSomeAnd there (λ content. limit < length content))
+
+-- the words are a command, and this is so of it
+pub record OfCommand (a : Call) (Fact : Command → Type 0) : Type 0 where
   pub command : Command
-  pub accepted : command_of c.words ≡ Some command
-  pub nothing : WroteNothing c
+  pub accepted : command_of a.words ≡ Some command
+  pub fact : Fact command
 
--- all others belong to commands that are not there yet
-abbrev pub Says : Status → Call → Type 0
-Says Done c = SaysDone c
-Says Usage c = SaysUsage c
-Says (ReadFault inputs.Image) c = SaysReadFault c
-Says (TooLong inputs.Image) c = SaysTooLong c
-Says (ImageRefused n) c = SaysImageRefused c n
-Says WriteFault c = SaysWriteFault c
-Says Memory c = SaysMemory c
-Says _ c = ⊥
-
--- the words are refused exactly where they are no command
-abbrev pub IsUsageExact : Status → Call → Type 0
-IsUsageExact status c = (status ≡ Usage) ↔ (command_of c.words ≡ None)
-
--- where the words are a command on an image that is held whole and is one that is loaded, and nothing failed, the command is done, but for want of memory
-pub record IsFaultless (c : Call) : Type 0 where
-  pub command : Command
-  pub accepted : command_of c.words ≡ Some command
-  pub contents : Contents
-  pub tells : c.held ≡ Some contents
+-- the image was read, and this is so of the command and the image's bytes
+pub record OfFile (a : Call) (Fact : Command → List ℕ → Type 0) : Type 0 where
   pub bytes : List ℕ
-  pub content : contents command.image ≡ Some bytes
-  pub short : length bytes ≤ IMAGE_LIMIT
-  pub form : IsFormE bytes
-  pub read : Rose (c.read_faults_before command.image) (c.read_faults_after command.image) → ⊥
-  pub written : Rose c.write_faults_before c.write_faults_after → ⊥
+  pub read : IsRead a bytes
+  pub fact : Fact read.command bytes
 
-abbrev pub IsComplete : Status → Call → Type 0
-IsComplete status c = IsFaultless c → (status ≡ Done) ⊎ (status ≡ Memory)
+-- the number of a fault of a stub file
+abbrev pub stub_number : StubFault → Option ℕ
+stub_number stub_faults.NotToml = Some 1
+stub_number stub_faults.UnknownKey = Some 2
+stub_number stub_faults.WrongKind = Some 3
+stub_number stub_faults.OutOfRange = Some 4
+stub_number stub_faults.Both = Some 5
+stub_number stub_faults.Memory = None
+
+-- bytes are laid out without a fault
+pub record HasNoFault (bytes : List ℕ) : Type 0 where
+  pub laid_out : LaidOut
+  pub loads : load_of bytes ≡ Ok laid_out
+
+-- bytes are refused for the number of their first fault, or since the image is not explored
+pub record IsUnexplored (task : Task) (bytes : List ℕ) (n : ℕ) : Type 0 where
+  pub number : n ≡ UNEXPLORED
+  pub stubs : StatedStubs
+  pub image : Image
+  pub loads : Loads bytes stubs image
+  pub refused : IsExplored task image → ⊥
+
+abbrev pub IsFileRefused : ℕ → Command → List ℕ → Type 0
+IsFileRefused n command bytes = (first_fault bytes ≡ Some n) ⊎ IsUnexplored command.task bytes n
+
+-- the command has a stub file, of whose name this is so, and its image has no fault
+abbrev pub OfStubs : (List ℕ → Type 0) → Command → List ℕ → Type 0
+OfStubs Fact command bytes = HasNoFault bytes × IsSomeAnd command.stubs Fact
+
+-- a stub file is refused for the fault of a number
+pub record AreStubsRefused (held : Option Contents) (n : ℕ) (name : List ℕ) : Type 0 where
+  pub text : List ℕ
+  pub content : IsWhole held name STUBS_LIMIT text
+  pub fault : StubFault
+  pub numbered : stub_number fault ≡ Some n
+  pub refused : Refuses text fault
+
+-- why a call is refused before anything is written; want of memory is free. All other statuses belong to commands that are not there yet
+abbrev pub IsRefused : Status → Call → Type 0
+IsRefused Usage a = command_of a.words ≡ None
+IsRefused (ReadFault inputs.Image) a = OfCommand a (λ command. IsUnread a.shelf command.image)
+IsRefused (TooLong inputs.Image) a = OfCommand a (λ command. IsTooLong a.shelf.held IMAGE_LIMIT command.image)
+IsRefused (ImageRefused n) a = OfFile a (IsFileRefused n)
+IsRefused (ReadFault inputs.Stubs) a = OfFile a (OfStubs (IsUnread a.shelf))
+IsRefused (TooLong inputs.Stubs) a = OfFile a (OfStubs (IsTooLong a.shelf.held STUBS_LIMIT))
+IsRefused (StubsRefused n) a = OfFile a (OfStubs (AreStubsRefused a.shelf.held n))
+IsRefused Memory a = Unit {0}
+IsRefused _ a = ⊥
+
+abbrev pub Says : Status → Call → Gain → Type 0
+Says Done a out = SaysDone a out
+Says WriteFault a out = SaysWriteFault a out
+Says status a out = IsRefused status a × (out.after ≡ out.before)
+
+-- the words are refused exactly where they are no command, but for want of memory
+abbrev pub IsUsageExact : Status → Call → Type 0
+IsUsageExact status a = (status ≡ Usage → command_of a.words ≡ None) × (command_of a.words ≡ None → (status ≡ Usage) ⊎ (status ≡ Memory))
+
+-- what a shelf that tells holds under a name, within a limit, and no read of it failed
+pub record IsHeld (s : Reading) (contents : Contents) (limit : ℕ) (name bytes : List ℕ) : Type 0 where
+  pub content : contents name ≡ Some bytes
+  pub short : length bytes ≤ limit
+  pub read : IsUnread s name → ⊥
+
+-- the same of a stub file, which is not refused
+abbrev pub AreStubsHeld : Reading → Contents → Option (List ℕ) → Type 0
+AreStubsHeld s contents None = Unit {0}
+AreStubsHeld s contents (Some name) = (text : List ℕ) × (IsHeld s contents STUBS_LIMIT name text × ((fault : StubFault) → Refuses text fault → stub_number fault ≡ None))
+
+-- where the words are a command on an image that is held whole and is taken, with stubs that are held whole and not refused, and nothing failed, the command is done, but for want of memory
+pub record IsFaultless (a : Call) (out : Gain) : Type 0 where
+  pub command : Command
+  pub accepted : command_of a.words ≡ Some command
+  pub contents : Contents
+  pub tells : a.shelf.held ≡ Some contents
+  pub bytes : List ℕ
+  pub image : IsHeld a.shelf contents IMAGE_LIMIT command.image bytes
+  pub stubs : AreStubsHeld a.shelf contents command.stubs
+  pub file : (n : ℕ) → IsFileRefused n command bytes → ⊥
+  pub written : Rose out.faults_before out.faults_after → ⊥
+
+abbrev pub IsComplete : Status → Call → Gain → Type 0
+IsComplete status a out = IsFaultless a out → (status ≡ Done) ⊎ (status ≡ Memory)
 
 -- `note` gained exactly the line, or a first part of it where its count rose
-abbrev pub IsNoted : List ℕ → Option (List ℕ) → Option (List ℕ) → ℕ → ℕ → Type 0
-IsNoted line before after faults_before faults_after = Gained before after line ⊎ (Rose faults_before faults_after × GainedPrefix before after line)
+abbrev pub IsNoted : List ℕ → Gain → Type 0
+IsNoted line note = Gained note.before note.after line ⊎ (Rose note.faults_before note.faults_after × GainedPrefix note.before note.after line)
+
+-- what the top call keeps of every call
+pub record Answers (status : Status) (a : Call) (out note : Gain) : Type 0 where
+  pub says : Says status a out
+  pub usage : IsUsageExact status a
+  pub complete : IsComplete status a out
+  pub noted : IsNoted (status_line status) note

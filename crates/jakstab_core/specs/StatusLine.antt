@@ -1,5 +1,6 @@
 -- The number of each status, and the line that tells it.
-use Rattle.std.specs.Prelude.{ℕ, List, [], ◌∷◌, ◌++◌, codes, decimal}
+use Rattle.std.specs.Prelude.{ℕ, List, [], ◌++◌, codes, decimal}
+use Rattle.text_fields.specs.Line.{newline}
 use Rattle.jakstab_core.specs.declared.status.Input.{Input}
 use Rattle.jakstab_core.specs.declared.status.Input.TheVariants as inputs
 use Rattle.jakstab_core.specs.declared.status.Status.{Status}
@@ -22,9 +23,6 @@ input_text inputs.Image = codes "image"
 input_text inputs.Stubs = codes "stubs"
 input_text inputs.First = codes "first"
 input_text inputs.Second = codes "second"
-
-abbrev pub newline : List ℕ
-newline = 10 ∷ []
 
 unfoldable pub status_line : Status → List ℕ
 status_line Done = []

@@ -102,49 +102,6 @@ fn instructions_are_listed_up_to_the_first_fault(rt: HostRuntime) -> Result<(), 
     Ok(())
 }
 
-// What follows `decode` and is no command.
-const REFUSED: [&[&str]; 22] = [
-    &[],
-    &["a"],
-    &["a", "08048000"],
-    &["a", "08048000", "1", "1"],
-    &["", "08048000", "1"],
-    &["-a", "08048000", "1"],
-    &["a", "08048000", "1", "-x"],
-    &["--k", "1", "a", "08048000", "1"],
-    &["a", "08048000", "1", "--k=1"],
-    &["--", "--", "a", "08048000", "1"],
-    &["a", "8048000", "1"],
-    &["a", "008048000", "1"],
-    &["a", "0804800G", "1"],
-    &["a", "0x048000", "1"],
-    &["a", "+8048000", "1"],
-    &["a", "", "1"],
-    &["a", "08048000", ""],
-    &["a", "08048000", "0"],
-    &["a", "08048000", "100001"],
-    &["a", "08048000", "4294967297"],
-    &["a", "08048000", "00000000001"],
-    &["a", "08048000", "+1"],
-];
-
-#[test]
-fn other_words_are_no_command(rt: HostRuntime) -> Result<(), Fail> {
-    let alloc = rt.alloc();
-    for words in REFUSED {
-        let mut shelf = MemoryShelf::new(alloc, Vec::new(alloc));
-        shelf.put("a", file_with(alloc, b"\xF4")?)?;
-        let mut out = sink(alloc, 4096, Vec::new(alloc))?;
-        let mut note = sink(alloc, 4096, Vec::new(alloc))?;
-        let words = decode_words(alloc, words)?;
-        let status = jakstab(&rt, alloc, &words, &mut shelf, &mut out, &mut note);
-        assert_eq!(rt; status, Status::Usage, "{words:?}");
-        assert!(rt; out.written().is_empty(), "{words:?}");
-        assert_eq!(rt; note.written(), b"jakstab: usage\n".as_slice());
-    }
-    Ok(())
-}
-
 // The text is 50 bytes: four writes of at most 16.
 #[test]
 fn each_fault_of_the_outside_is_answered_by_decode(rt: HostRuntime) -> Result<(), Fail> {

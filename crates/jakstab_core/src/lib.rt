@@ -1,20 +1,20 @@
-// The program: its words, its commands, its statuses, and the top call that does a command.
+// The program: its commands, its statuses, and the top call that does a command.
 // It stands on image_loader, flow_worklist, automaton_text, decode_listing and outside_io.
 // Its contract: `jakstab` keeps what `specs/Says.antt` states for each status, the headline among it.
 #![tactic(auto)]
 
 #[cfg(test)]
 mod decode_tests;
-mod perform;
+mod due;
+#[cfg(test)]
+mod list_tests;
+#[cfg(test)]
+mod memory_tests;
 mod recover;
 mod status;
-mod task;
 #[cfg(test)]
 mod tests;
 mod top;
-#[cfg(test)]
-mod word_tests;
-mod words;
 
 pub use status::{Input, Status};
 pub use top::jakstab;

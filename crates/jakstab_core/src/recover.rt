@@ -2,10 +2,10 @@ ghost use Rattle.std.specs.Prelude.{◌≡◌, IfOk};
 ghost use Rattle.domain_laws.specs.Made.{values_of};
 ghost use Rattle.jakstab_core.specs.Headline.{log_text, recovered_text};
 
-use crate::task::{DomainName, Options};
 use automaton_text::print_automaton;
 use bit_words::NoMemory;
 use bounded_values::Bounded;
+use command_words::{DomainName, Options};
 use domain_laws::{Domain, FlatNumbers};
 use flow_worklist::{Limits, automaton_of, explore};
 use image_loader::Image;

@@ -1,6 +1,7 @@
 ghost use Rattle.std.specs.Prelude.{◌≡◌, ◌≤◌, ◌+◌, ◌++◌, codes, decimal, length};
 ghost use Rattle.arrayvec.specs.ArrayString.{array_string_len};
-ghost use Rattle.jakstab_core.specs.StatusLine.{input_text, newline, status_line, status_number};
+ghost use Rattle.text_fields.specs.Line.{newline};
+ghost use Rattle.jakstab_core.specs.StatusLine.{input_text, status_line, status_number};
 
 use arrayvec::ArrayString;
 use itoa::Buffer;

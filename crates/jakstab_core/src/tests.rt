@@ -1,34 +1,15 @@
 ghost use Rattle.std.specs.Prelude.{◌<◌};
 
 use crate::{Input, Status, jakstab};
+use bit_words::NoMemory;
+use demo_images::form_e;
 use outside_io::{MemoryShelf, MemorySink, SureShelf, SureSink};
 use std::alloc::{AllocError, Global};
 use std::test::Fail;
 
-const ENTRY: [u8; 4] = [0x00, 0x80, 0x04, 0x08];
-
-// An ELF file of one segment at 08048000 with this code, which may be read and executed.
-pub fn file_with(alloc: Global, code: &[u8]) -> Result<Vec<u8>, AllocError> {
-    let size = [code.len().min(255) as u8, 0, 0, 0];
-    let mut file = Vec::new(alloc);
-    for part in [
-        b"\x7FELF\x01\x01\x01\0\0\0\0\0\0\0\0\0".as_slice(),
-        b"\x02\0\x03\0\x01\0\0\0",
-        &ENTRY,
-        b"\x34\0\0\0\0\0\0\0\0\0\0\0\x34\0\x20\0\x01\0\0\0\0\0\0\0",
-        b"\x01\0\0\0\x54\0\0\0",
-        &ENTRY,
-        &ENTRY,
-        &size,
-        &size,
-        b"\x05\0\0\0\x01\0\0\0",
-        code,
-    ] {
-        for b in part {
-            file.push(*b)?;
-        }
-    }
-    Ok(file)
+// The file of code in one segment that may be read and executed.
+pub fn file_with(alloc: Global, code: &[u8]) -> Result<Vec<u8>, NoMemory> {
+    form_e(alloc, &code[..code.len().min(4096)], 5)
 }
 
 pub fn words_of(alloc: Global, words: &[&str]) -> Result<Vec<String>, AllocError> {
@@ -39,11 +20,7 @@ pub fn words_of(alloc: Global, words: &[&str]) -> Result<Vec<String>, AllocError
     Ok(all)
 }
 
-pub fn sink(
-    alloc: Global,
-    per_write: usize,
-    fail_at: Vec<u64>,
-) -> Result<MemorySink, bit_words::NoMemory>
+pub fn sink(alloc: Global, per_write: usize, fail_at: Vec<u64>) -> Result<MemorySink, NoMemory>
     requires { 0 < per_write }
 {
     MemorySink::new(alloc, 4096, per_write, fail_at)
@@ -147,6 +124,26 @@ open 08048005 budget
 end 3 3 1
 ";
 
+// The sum and the difference are known, and DEC gives 0: the `jne` is not taken, and the `je` is.
+const KNOWN_ARITHMETIC: &str = "\
+jakstab-automaton 1
+entry 08048000
+loc 08048000
+loc 08048005
+loc 08048008
+loc 0804800B
+loc 0804800C
+loc 0804800E
+loc 08048010
+edge 08048000 08048005 B802000000 mov eax, 00000002
+edge 08048005 08048008 83C003 add eax, 00000003
+edge 08048008 0804800B 83E804 sub eax, 00000004
+edge 0804800B 0804800C 48 dec eax
+edge 0804800C 0804800E 75FE jne 0804800C
+edge 0804800E 08048010 7400 je 08048010
+end 7 6 0
+";
+
 const COUNTING: &[u8] = b"\xB8\0\0\0\0\x40\xEB\xFD";
 
 #[test]
@@ -156,7 +153,7 @@ fn images_are_recovered_to_their_texts(rt: HostRuntime) -> Result<(), Fail> {
     let twelve: &[&str] = &["recover", "--k", "4", "--budget", "12", "a"];
     let eleven: &[&str] = &["recover", "a", "--k=4", "--budget=11"];
     let flat: &[&str] = &["recover", "--domain", "flat", "a"];
-    let rows: [(&[&str], &[u8], &str); 9] = [
+    let rows: [(&[&str], &[u8], &str); 10] = [
         (plain, b"\xEB\xFE", SELF_JUMP),
         (plain, b"\xEB\xFF\xC0\xF4", OVERLAP),
         (
@@ -167,6 +164,11 @@ fn images_are_recovered_to_their_texts(rt: HostRuntime) -> Result<(), Fail> {
         (plain, b"\x74\x00\xF4", JE_NEXT),
         (plain, b"\x74\x01\xE9\x90\x90\xF4\x00", JUMP_INTO_NEXT),
         (plain, b"\xE9\xFB\x7F\xFB\xE7", JUMP_TO_EXIT),
+        (
+            plain,
+            b"\xB8\x02\0\0\0\x83\xC0\x03\x83\xE8\x04\x48\x75\xFE\x74\x00\xF4",
+            KNOWN_ARITHMETIC,
+        ),
         (twelve, COUNTING, COUNTING_LOOP),
         (eleven, COUNTING, COUNTING_LOOP_SPENT),
         (flat, COUNTING, COUNTING_LOOP),
@@ -189,13 +191,7 @@ fn images_are_recovered_to_their_texts(rt: HostRuntime) -> Result<(), Fail> {
 fn other_files_and_words_are_refused_and_write_nothing(rt: HostRuntime) -> Result<(), Fail> {
     let alloc = rt.alloc();
     let whole = file_with(alloc, b"\xEB\xFE")?;
-    let writable = {
-        let mut file = file_with(alloc, b"\xEB\xFE")?;
-        if let Some(flags) = file.get_mut(76) {
-            *flags = 7;
-        }
-        file
-    };
+    let writable = form_e(alloc, b"\xEB\xFE", 7)?;
     let rows: [(&[&str], &[u8], Status, &str); 8] = [
         (
             &["recover", "a"],
@@ -212,8 +208,8 @@ fn other_files_and_words_are_refused_and_write_nothing(rt: HostRuntime) -> Resul
         (
             &["recover", "a"],
             b"MZ",
-            Status::ImageRefused(300),
-            "jakstab: image refused 300\n",
+            Status::ImageRefused(101),
+            "jakstab: image refused 101\n",
         ),
         (
             &["recover", "a"],

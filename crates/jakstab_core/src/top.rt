@@ -1,18 +1,14 @@
-ghost use Rattle.std.specs.Prelude.{◌≡◌, Some, map, string_bytes};
-ghost use Rattle.jakstab_core.specs.Says.{Call, Says, IsUsageExact, IsComplete, IsNoted};
-ghost use Rattle.jakstab_core.specs.StatusLine.{status_line};
+ghost use Rattle.std.specs.Prelude.{map, string_bytes};
+ghost use Rattle.jakstab_core.specs.Due.{IsDelivered};
+ghost use Rattle.jakstab_core.specs.Says.{Answers};
 
-use crate::perform::perform;
-use crate::words::command;
-use crate::{Input, Status};
-use outside_io::{Shelf, ShelfFault, Sink, write_all};
+use crate::Status;
+use crate::due::due_text;
+use outside_io::{Shelf, Sink, write_all};
 use std::alloc::Global;
 use std::thread::Threads;
 
-/// The most bytes of an image file.
-const IMAGE_LIMIT: u64 = 16_777_216;
-
-/// Does the command that the words name, and tells on `note` how it ended.
+/// Does the command that the words name, and tells on `note` how it ended. A refusal writes nothing to `out`.
 pub fn jakstab<R: Threads + Sync, S: Shelf, K: Sink>(
     rt: &R,
     alloc: Global,
@@ -21,30 +17,23 @@ pub fn jakstab<R: Threads + Sync, S: Shelf, K: Sink>(
     out: &mut K,
     note: &mut K,
 ) -> Status
-    ensures says { Says result (record { words = map string_bytes words.now; held = S.contents shelf.old; read_faults_before = S.faults shelf.old; read_faults_after = S.faults shelf.new; out_before = K.written out.old; out_after = K.written out.new; write_faults_before = K.faults out.old; write_faults_after = K.faults out.new }) }
-    ensures usage { IsUsageExact result (record { words = map string_bytes words.now; held = S.contents shelf.old; read_faults_before = S.faults shelf.old; read_faults_after = S.faults shelf.new; out_before = K.written out.old; out_after = K.written out.new; write_faults_before = K.faults out.old; write_faults_after = K.faults out.new }) }
-    ensures complete { IsComplete result (record { words = map string_bytes words.now; held = S.contents shelf.old; read_faults_before = S.faults shelf.old; read_faults_after = S.faults shelf.new; out_before = K.written out.old; out_after = K.written out.new; write_faults_before = K.faults out.old; write_faults_after = K.faults out.new }) }
-    ensures noted { IsNoted (status_line result) (K.written note.old) (K.written note.new) (K.faults note.old) (K.faults note.new) }
+    ensures { Answers result (record { words = map string_bytes words.now; shelf = record { held = S.contents shelf.old; faults_before = S.faults shelf.old; faults_after = S.faults shelf.new } }) (record { before = K.written out.old; after = K.written out.new; faults_before = K.faults out.old; faults_after = K.faults out.new }) (record { before = K.written note.old; after = K.written note.new; faults_before = K.faults note.old; faults_after = K.faults note.new }) }
 {
     let _ = rt;
-    let status = done(alloc, words, shelf, out);
+    let status = deliver(due_text(alloc, words, shelf), out);
     let _ = write_all(note, status.line().as_bytes());
     status
 }
 
-// The command done, and how it ended.
-fn done<S: Shelf, K: Sink>(alloc: Global, words: &[String], shelf: &mut S, out: &mut K) -> Status
-    ensures { Says result (record { words = map string_bytes words.now; held = S.contents shelf.old; read_faults_before = S.faults shelf.old; read_faults_after = S.faults shelf.new; out_before = K.written out.old; out_after = K.written out.new; write_faults_before = K.faults out.old; write_faults_after = K.faults out.new }) }
+// Writes the text that is due, or hands on the refusal.
+fn deliver<K: Sink>(due: Result<Vec<u8>, Status>, out: &mut K) -> Status
+    ensures { IsDelivered due result (record { before = K.written out.old; after = K.written out.new; faults_before = K.faults out.old; faults_after = K.faults out.new }) }
 {
-    match command(words) {
-        None => Status::Usage,
-        Some((name, task)) => {
-            match shelf.read_whole(alloc, name, IMAGE_LIMIT) {
-                Err(ShelfFault::Failed) => Status::ReadFault(Input::Image),
-                Err(ShelfFault::TooLong { .. }) => Status::TooLong(Input::Image),
-                Err(ShelfFault::Memory) => Status::Memory,
-                Ok(bytes) => perform(alloc, task, &bytes, out),
-            }
-        }
+    match due {
+        Ok(text) => match write_all(out, &text) {
+            Ok(()) => Status::Done,
+            Err(_) => Status::WriteFault,
+        },
+        Err(refusal) => refusal,
     }
 }

@@ -1,3 +1,9 @@
 pub mod Lists
 pub mod Faults
 pub mod Access
+pub mod Mappings
+pub mod RunBytes
+pub mod Alignments
+pub mod Patching
+pub mod Reaching
+pub mod Writing

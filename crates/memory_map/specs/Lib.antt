@@ -1,7 +1,11 @@
 pub mod Range
+pub mod Spans
+pub mod Patch
 pub mod Map
 pub mod Name
 pub mod FileBytes
+pub mod Alignment
 pub mod Image
+pub mod Registers
 pub mod State
 pub mod Start

@@ -1,5 +1,5 @@
 -- What a list of segments maps, and which lists may be mapped.
-use Rattle.std.specs.Prelude.{◌≡◌, ℕ, ◌+◌, ◌<◌, ◌≤◌, ◌^◌, Bool, true, List, [], ◌∷◌, ◌&&◌, ◌||◌, not, length, Option, None, Some, nat_le, nat_lt, filter, sum_by, All, AllPairs, if◌then◌else◌, ◌==◌, bit_and}
+use Rattle.std.specs.Prelude.{◌≡◌, ℕ, ◌+◌, ◌<◌, ◌≤◌, ◌^◌, Bool, true, List, [], ◌∷◌, ◌&&◌, ◌||◌, not, length, Option, None, Some, nat_le, nat_lt, filter, sum_by, All, AllPairs, if◌then◌else◌, ◌==◌, bit_and, max, min}
 use Rattle.std.specs.List.{list_all, list_any}
 use Rattle.memory_map.specs.Range.{Range, USER_LOW, USER_END, end_of, has, IsInUserSpace, AreApart, HasBytes}
 use Rattle.memory_map.specs.declared.perm.Perm.{Perm}
@@ -57,8 +57,13 @@ map_fault ranges =
     else if nat_lt MAPPED_LIMIT (total_size ranges) then Some TooLarge
     else None
 
+-- a range has some byte
+abbrev pub HasSome : Range → Type 0
+HasSome r = 0 < length r.bytes
+
 -- what the ranges of an image keep
 pub record IsMap (ranges : List Range) : Type 0 where
+  pub some : All HasSome ranges
   pub inside : All IsInUserSpace ranges
   pub apart : AllPairs AreApart ranges
   pub bytes : All HasBytes ranges
@@ -67,6 +72,10 @@ pub record IsMap (ranges : List Range) : Type 0 where
 -- whether an access with these rights may touch a byte of a range; every mapped byte may be read
 abbrev pub permits : Perm → Range → Bool
 permits perm r = (not (has_right perm may_write_bit) || r.write) && (not (has_right perm may_execute_bit) || r.execute)
+
+-- whether a byte that may be written is among the addresses from one up to another
+abbrev pub may_write_between : ℕ → ℕ → Range → Bool
+may_write_between from end r = r.write && nat_lt (max from r.low) (min end (end_of r))
 
 -- whether an access with these rights may touch the byte at an address
 abbrev pub is_allowed : List Range → Perm → ℕ → Bool

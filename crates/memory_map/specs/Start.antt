@@ -1,9 +1,10 @@
 -- The states from which a run of an image may start.
 use Rattle.std.specs.Prelude.{ℕ, ◌≡◌, ◌+◌, ◌*◌, ◌%◌, ◌⊎◌, true, false, List, [], ◌∷◌, ◌++◌, length, slice_get, All, AllPairs, IsTrue, Some}
-use Rattle.std.specs.List.{AllZip, list_any}
+use Rattle.std.specs.List.{AllZip}
 use Rattle.memory_map.specs.Range.{Range, byte_at, AreApart, IsInUserSpace, HasBytes}
 use Rattle.memory_map.specs.declared.span.Span.{Span}
-use Rattle.memory_map.specs.Image.{Image, is_in_span, EXIT_PLACE}
+use Rattle.memory_map.specs.Image.{Image, has_exit_word, EXIT_PLACE}
+use Rattle.memory_map.specs.Spans.{is_in_ranges}
 use Rattle.memory_map.specs.State.{MachineState, memory, HasWords}
 
 -- the stack window reaches this far below the stack pointer, and this far above it
@@ -30,7 +31,7 @@ pub record HoldsLoaded (unset : List Span) (segment held : Range) : Type 0 where
   pub size : length held.bytes ≡ length segment.bytes
   pub write : held.write ≡ segment.write
   pub execute : held.execute ≡ segment.execute
-  pub bytes : (i : ℕ) → IsTrue (list_any (is_in_span (segment.low + i)) unset) ⊎ (slice_get held.bytes i ≡ slice_get segment.bytes i)
+  pub bytes : (i : ℕ) → IsTrue (is_in_ranges (segment.low + i) unset) ⊎ (slice_get held.bytes i ≡ slice_get segment.bytes i)
 
 -- the segments lie as loaded, and beside them only the three windows are mapped
 pub record MapsExactly (image : Image) (m : MachineState) : Type 0 where
@@ -64,4 +65,4 @@ pub record Start (image : Image) (m : MachineState) : Type 0 where
   pub bytes : All HasBytes (memory m)
   pub inside : All IsInUserSpace (memory m)
   pub apart : AllPairs AreApart (memory m)
-  pub exit : image.exit_word ≡ true → HasWord (memory m) m.registers.esp EXIT_PLACE
+  pub exit : has_exit_word image ≡ true → HasWord (memory m) m.registers.esp EXIT_PLACE

@@ -1,17 +1,7 @@
 -- The state of the machine: a 32-bit x86 processor in user mode, with flat memory (manual, volume 1, chapter 3).
 use Rattle.std.specs.Prelude.{ℕ, ◌^◌, ◌<◌, Bool, List, ◌∷◌}
 use Rattle.memory_map.specs.Range.{Range}
-
--- the general-purpose registers
-pub record Registers : Type 0 where
-  pub eax : ℕ
-  pub ecx : ℕ
-  pub edx : ℕ
-  pub ebx : ℕ
-  pub esp : ℕ
-  pub ebp : ℕ
-  pub esi : ℕ
-  pub edi : ℕ
+use Rattle.memory_map.specs.declared.registers.Regs.{Regs}
 
 -- the flags of EFLAGS that instructions read and write: CF PF AF ZF SF OF DF
 pub record Flags : Type 0 where
@@ -24,7 +14,8 @@ pub record Flags : Type 0 where
   pub direction : Bool
 
 pub record MachineState : Type 0 where
-  pub registers : Registers
+  -- the general-purpose registers, each a number
+  pub registers : Regs ℕ
   pub eip : ℕ
   pub flags : Flags
   -- the bases of the segments fs and gs; all other segments have base 0

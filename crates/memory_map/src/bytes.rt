@@ -1,5 +1,7 @@
-ghost use Rattle.std.specs.Prelude.{◌≡◌, ◌↔◌, ◌<◌, ◌^◌, length, IsTrue, All};
+ghost use Rattle.std.specs.Prelude.{◌≡◌, ◌↔◌, ◌<◌, ◌≤◌, ◌+◌, ◌^◌, length, IsTrue, All};
+ghost use Rattle.memory_map.specs.Patch.{with_word};
 
+use crate::patch::write_word;
 use std::marker::Model;
 
 /// A run of bytes, which contracts see as their list.
@@ -39,6 +41,14 @@ impl Bytes {
         ensures range { All (λ b. b < 256) self.now }
     {
         self.held.as_slice()
+    }
+
+    /// Puts a word at a place, its lowest byte first.
+    pub fn put_word(&mut self, at: usize, word: u32)
+        requires { at + 4 ≤ length self.old }
+        ensures { self.new ≡ with_word self.old at word }
+    {
+        write_word(&mut self.held, at, word);
     }
 
     /// How many bytes there are.

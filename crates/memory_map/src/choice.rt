@@ -1,51 +1,10 @@
-ghost use Rattle.std.specs.Prelude.{◌≡◌};
-
-use crate::Bytes;
-use std::marker::Model;
+use crate::{Bytes, Items};
 
 /// Bytes to put from an address on, where a step or a start leaves them free.
 #[derive(Drop)]
 pub struct Fill {
     pub at: u32,
     pub bytes: Bytes,
-}
-
-/// Fills in their order, which contracts see as a list; where two hold one byte, the later one counts.
-#[derive(Drop)]
-pub struct Fills {
-    held: Vec<Fill>,
-}
-
-impl Model for Fills {
-    ghost use Rattle.std.specs.Prelude.{List};
-    ghost use Rattle.memory_map.specs.declared.choice.Fill.{Fill};
-
-    ghost Value = { List Fill };
-
-    ghost view = { λ f. f.held.items };
-}
-
-impl Fills {
-    /// The fills of a vector; takes no memory.
-    pub fn from_vec(held: Vec<Fill>) -> Fills
-        ensures { result ≡ held.items }
-    {
-        Fills { held }
-    }
-
-    /// The vector again; takes no memory.
-    pub fn into_vec(self) -> Vec<Fill>
-        ensures { result.items ≡ self }
-    {
-        self.held
-    }
-
-    /// The fills, in order.
-    pub fn as_slice(&self) -> &[Fill]
-        ensures { result.now ≡ self.now }
-    {
-        self.held.as_slice()
-    }
 }
 
 /// What a step leaves open, chosen. A step ignores the fields that it does not use.
@@ -63,6 +22,6 @@ pub struct Choice {
     pub base: u32,
     /// Whether an import that may fail does.
     pub fails: bool,
-    /// Bytes that an import leaves free.
-    pub fill: Fills,
+    /// Bytes that an import leaves free, in their order; where two fills hold one byte, the later one counts.
+    pub fill: Items<Fill>,
 }

@@ -3,22 +3,36 @@
 // Its contract: `specs/` has the machine's state whole; the types here are what code and definitions share.
 #![tactic(auto)]
 
+mod alignment;
 mod bytes;
 mod choice;
 mod fault;
 mod file_bytes;
+mod format;
+mod import_name;
+mod items;
 mod name;
+mod patch;
 mod perm;
+mod ranges;
+mod registers;
+mod runs;
 mod segment;
 mod segments;
 mod span;
 
+pub use alignment::is_alignment;
 pub use bytes::Bytes;
-pub use choice::{Choice, Fill, Fills};
+pub use choice::{Choice, Fill};
 pub use fault::{BadKind, FaultKind, MapFault};
 pub use file_bytes::{half_at, word_at};
-pub use name::{LONGEST_NAME, Name};
+pub use format::Format;
+pub use import_name::ImportName;
+pub use items::Items;
+pub use name::{LONGEST_NAME, MOST_NAMES, Name};
 pub use perm::Perm;
+pub use ranges::Ranges;
+pub use registers::Regs;
 pub use segment::{Segment, USER_END, USER_LOW};
 pub use segments::{MAPPED_BYTES, Segments};
 pub use span::Span;

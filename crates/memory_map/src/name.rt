@@ -12,6 +12,9 @@ use std::marker::Model;
 /// The longest name of an import.
 pub const LONGEST_NAME: usize = 4096;
 
+/// The most names that an image imports.
+pub const MOST_NAMES: usize = 65_535;
+
 /// The name of an import: 1 to 4,096 bytes of 21 to 7E, which contracts see as their list.
 #[derive(Drop)]
 pub struct Name {

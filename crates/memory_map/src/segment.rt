@@ -1,6 +1,7 @@
 ghost use Rattle.std.specs.Prelude.{◌≡◌, ◌<◌, ◌≤◌, ◌+◌, ◌^◌, length, All, option_copied, slice_get, ◌-◌, not};
 ghost use Rattle.memory_map.specs.Range.{has, end_of};
-ghost use Rattle.memory_map.specs.Map.{range_of, is_in_user_space, are_apart, permits, maps_some};
+ghost use Rattle.memory_map.specs.Patch.{patched};
+ghost use Rattle.memory_map.specs.Map.{range_of, is_in_user_space, are_apart, may_write_between, permits, maps_some};
 
 use crate::{Bytes, Perm};
 use bitflags::Flags;
@@ -64,6 +65,22 @@ impl Segment {
         ensures { result ≡ are_apart (range_of self.now) (range_of other.now) }
     {
         self.end() <= u64::from(other.low) || other.end() <= u64::from(self.low)
+    }
+
+    /// Whether one of its bytes that may be written is among the addresses from one up to another.
+    pub fn may_write_between(&self, from: u64, end: u64) -> bool
+        ensures { result ≡ may_write_between from end (range_of self.now) }
+    {
+        self.perm.contains(Perm::WRITE) && from.max(u64::from(self.low)) < end.min(self.end())
+    }
+
+    /// Puts a word at an address, its lowest byte first, where all four bytes are its own.
+    pub fn put_word(&mut self, a: u32, word: u32)
+        ensures { range_of self.new ≡ patched a word (range_of self.old) }
+    {
+        if self.low <= a && u64::from(a) + 4 <= self.end() {
+            self.bytes.put_word((a - self.low) as usize, word);
+        }
     }
 
     /// Whether an access with these rights may touch its bytes.

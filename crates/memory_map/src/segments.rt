@@ -1,10 +1,15 @@
-ghost use Rattle.std.specs.Prelude.{IfSome, IfNone, IfOk, ◌≡◌, ◌⊎◌, ◌↔◌, ◌<◌, All, false, map, List, Some, None, MatchResult, IsTrue, nat_lt, option_copied};
-ghost use Rattle.std.specs.List.{list_all};
-ghost use Rattle.memory_map.specs.Range.{byte_at, code_at, run_of, HasBytes};
-ghost use Rattle.memory_map.specs.Map.{is_allowed, AreAllowed, range_of, mapped, map_fault, total_size, all_apart, are_apart, is_in_user_space, IsMap, Allows, MAPPED_LIMIT};
+ghost use Rattle.std.specs.Prelude.{IfSome, IfNone, IfOk, ◌≡◌, ◌⊎◌, ◌↔◌, ◌<◌, ◌≤◌, ◌+◌, ◌-◌, ◌^◌, All, false, map, List, Some, None, MatchResult, IsTrue, nat_lt, option_copied};
+ghost use Rattle.std.specs.List.{list_all, list_any};
+ghost use Rattle.memory_map.specs.Range.{byte_at, code_at, code_run, maps_all, may_write, may_write_any, may_write_each, HasBytes};
+ghost use Rattle.memory_map.specs.Patch.{put_word};
+ghost use Rattle.memory_map.specs.Spans.{runs_of};
+ghost use Rattle.memory_map.specs.Map.{is_allowed, may_write_between, AreAllowed, range_of, mapped, map_fault, total_size, all_apart, are_apart, is_in_user_space, IsMap, Allows, MAPPED_LIMIT};
 
-use crate::{MapFault, Perm, Segment};
+use crate::patch::put_in_each;
+use crate::runs::{put_before, unwritable_from, writable_from};
+use crate::{MapFault, Perm, Ranges, Segment};
 use arrayvec::ArrayVec;
+use std::alloc::{AllocError, Global};
 use std::marker::Model;
 
 /// The most bytes that an image may map.
@@ -19,7 +24,9 @@ pub struct Segments {
 
 impl Model for Segments {
     ghost use Rattle.std.specs.Prelude.{List, map};
-    ghost use Rattle.memory_map.specs.Map.{is_allowed, AreAllowed, range_of, IsMap};
+    ghost use Rattle.memory_map.specs.Patch.{put_word};
+    ghost use Rattle.memory_map.specs.Spans.{runs_of};
+    ghost use Rattle.memory_map.specs.Map.{is_allowed, may_write_between, AreAllowed, range_of, IsMap};
     ghost use Rattle.memory_map.specs.declared.segment.Segment.{Segment};
 
     ghost Value = { List Segment };
@@ -96,6 +103,13 @@ fn code_in(list: &[Segment], a: u64) -> Option<u8>
     None
 }
 
+// Whether some byte among the addresses from one up to another may be written.
+fn may_write_in(list: &[Segment], from: u64, end: u64) -> bool
+    ensures { result ≡ list_any (λ s. may_write_between from end (range_of s)) list.now }
+{
+    list.iter().any(|s| s.may_write_between(from, end))
+}
+
 // The end of the segment that has an address, where it permits the access.
 fn allowed_until(list: &[Segment], a: u64, perm: Perm) -> Option<u64>
     ensures on { IfSome result (λ end. a < end) }
@@ -151,6 +165,21 @@ impl Segments {
         self.held.as_slice()
     }
 
+    /// The segments, in order; they can be mapped together again. Takes no memory.
+    pub fn into_vec(self) -> Vec<Segment>
+        ensures segments { result.items ≡ self }
+        ensures again { (mapped result.items ≡ result.items) × (map_fault (map range_of result.items) ≡ None) }
+    {
+        self.held
+    }
+
+    /// Puts a word at an address, its lowest byte first, where all four bytes are in one segment.
+    pub fn put_word(&mut self, a: u32, word: u32)
+        ensures { map range_of self.new ≡ put_word a word (map range_of self.old) }
+    {
+        put_in_each(&mut self.held, a, word);
+    }
+
     /// The byte at an address, where one is mapped.
     pub fn byte_at(&self, a: u32) -> Option<u8>
         ensures { result ≡ byte_at (map range_of self.now) a }
@@ -160,7 +189,7 @@ impl Segments {
 
     /// The executable bytes from an address on.
     pub fn fetch(&self, a: u32) -> ArrayVec<u8, 15>
-        ensures { result.items ≡ run_of (code_at (map range_of self.now)) 15 a }
+        ensures { result.items ≡ code_run (map range_of self.now) a }
     {
         let mut bytes = ArrayVec::new();
         for i in 0..15 {
@@ -179,5 +208,50 @@ impl Segments {
     {
         let end = u64::from(a) + u64::from(n);
         end <= 0x1_0000_0000 && are_allowed(&self.held, u64::from(a), end, perm)
+    }
+
+    /// Whether each of `n` bytes from an address on is mapped.
+    pub fn maps_all(&self, a: u64, n: u64) -> bool
+        requires { a + n < 2 ^ 64 }
+        ensures { result ≡ maps_all (map range_of self.now) a n }
+    {
+        are_allowed(&self.held, a, a + n, Perm::READ)
+    }
+
+    /// Whether some of `n` bytes from an address on may be written.
+    pub fn may_write_any(&self, a: u64, n: u64) -> bool
+        requires { a + n < 2 ^ 64 }
+        ensures { result ≡ may_write_any (map range_of self.now) a n }
+    {
+        may_write_in(&self.held, a, a + n)
+    }
+
+    /// The longest runs of bytes that may be written among the addresses from one up to another, ascending.
+    pub fn writable_runs(&self, alloc: Global, from: u64, end: u64) -> Result<Ranges, AllocError>
+        requires ordered { from ≤ end }
+        requires end { end ≤ 2 ^ 32 }
+        ensures { IfOk result (λ runs. runs ≡ runs_of (may_write (map range_of self.now)) from (end - from)) }
+    {
+        let mut runs = Vec::new(alloc);
+        let mut at = end;
+        while from < at {
+            match writable_from(&self.held, at - 1) {
+                Some(low) => {
+                    let start = low.max(from);
+                    put_before(&mut runs, start, at)?;
+                    at = start;
+                }
+                None => at = unwritable_from(&self.held, from, at - 1),
+            }
+        }
+        Ok(Ranges::from_vec(runs))
+    }
+
+    /// Whether each of `n` bytes from an address on may be written.
+    pub fn may_write_each(&self, a: u64, n: u64) -> bool
+        requires { a + n < 2 ^ 64 }
+        ensures { result ≡ may_write_each (map range_of self.now) a n }
+    {
+        are_allowed(&self.held, a, a + n, Perm::WRITE)
     }
 }

@@ -127,6 +127,52 @@ fn look_ups_go_by_segments(rt: HostRuntime) -> Result<(), Fail> {
 }
 
 #[test]
+fn ranges_are_asked_for_by_segments(rt: HostRuntime) -> Result<(), Fail> {
+    let alloc = rt.alloc();
+    let mut list = Vec::new(alloc);
+    list.push(segment(alloc, 0x2010, 8, Perm::new(true, false))?)?;
+    list.push(segment(alloc, 0x2020, 16, Perm::new(true, true))?)?;
+    list.push(segment(alloc, 0x2000, 16, Perm::new(false, true))?)?;
+    list.push(segment(alloc, 0x2018, 4, Perm::new(true, false))?)?;
+    let segments = match Segments::new(list) {
+        Ok(segments) => segments,
+        Err(_) => return Err(Fail::from("refused")),
+    };
+    for (a, n, mapped, each, some) in [
+        (0x2000, 0x1C, true, false, true),
+        (0x2000, 16, true, false, false),
+        (0x2010, 12, true, true, true),
+        (0x2010, 13, false, false, true),
+        (0x1FFF, 0x11, false, false, false),
+        (0x201C, 4, false, false, false),
+        (0x3000, 0, true, true, false),
+    ] {
+        assert_eq!(rt; segments.maps_all(a, n), mapped, "{n} at {a}");
+        assert_eq!(rt; segments.may_write_each(a, n), each, "{n} at {a}");
+        assert_eq!(rt; segments.may_write_any(a, n), some, "{n} at {a}");
+    }
+    let low = Span {
+        low: 0x2010,
+        size: 12,
+    };
+    let high = Span {
+        low: 0x2020,
+        size: 5,
+    };
+    let runs = segments.writable_runs(alloc, 0, 0x2025)?;
+    assert_eq!(rt; runs.as_slice(), [low, high].as_slice());
+    assert_eq!(rt;
+        segments
+            .writable_runs(alloc, 0x2028, 0x1_0000_0000)?
+            .as_slice()
+            .len(),
+        1
+    );
+    assert_eq!(rt; segments.into_vec().len(), 4);
+    Ok(())
+}
+
+#[test]
 fn names_are_printable(rt: HostRuntime) -> Result<(), Fail> {
     let alloc = rt.alloc();
     for (text, want) in [
@@ -154,12 +200,47 @@ fn small_types_give_back_what_they_hold(rt: HostRuntime) -> Result<(), Fail> {
     assert_eq!(rt; bytes.len(), 2);
     assert!(rt; !bytes.is_empty());
     assert_eq!(rt; bytes.into_vec().as_slice(), [7, 8].as_slice());
-    let fills = Fills::from_vec(Vec::new(alloc));
-    assert!(rt; fills.as_slice().is_empty());
-    assert!(rt; fills.into_vec().is_empty());
+    let items: Items<u32> = Items::from_vec([3, 1].to_vec(alloc)?);
+    assert_eq!(rt; items.len(), 2);
+    assert_eq!(rt; items.as_slice(), [3, 1].as_slice());
+    assert_eq!(rt; items.into_vec().as_slice(), [3, 1].as_slice());
+    for (n, want) in [
+        (2, false),
+        (4, true),
+        (12, false),
+        (4096, true),
+        (8192, false),
+    ] {
+        assert_eq!(rt; is_alignment(n), want, "{n}");
+    }
     assert_eq!(rt; half_at(&[1, 2, 3], 1), 0x0302);
     assert_eq!(rt; word_at(&[1, 2, 3, 0x84, 5], 0), 0x8403_0201);
     assert!(rt; Perm::new(true, true) == (Perm::READ | Perm::WRITE | Perm::EXECUTE));
     assert_eq!(rt; Perm::new(false, true).bits(), 5);
+    Ok(())
+}
+
+#[test]
+fn an_address_is_in_a_range_from_its_low_to_below_its_end(rt: HostRuntime) -> Result<(), Fail> {
+    let alloc = rt.alloc();
+    let high = Span {
+        low: 0xFFFF_FFFE,
+        size: 2,
+    };
+    let none = Span { low: 8, size: 0 };
+    let ranges = Ranges::from_vec([Span { low: 4, size: 2 }, none, high].to_vec(alloc)?);
+    for (a, want) in [
+        (3, false),
+        (4, true),
+        (5, true),
+        (6, false),
+        (8, false),
+        (0xFFFF_FFFD, false),
+        (0xFFFF_FFFF, true),
+        (0x1_0000_0000, false),
+    ] {
+        assert_eq!(rt; ranges.has(a), want, "at {a}");
+    }
+    assert_eq!(rt; ranges.into_vec().len(), 3);
     Ok(())
 }

@@ -1,4 +1,3 @@
-pub mod Hex
 pub mod Outside
 pub mod Refusals
 pub mod Sinking

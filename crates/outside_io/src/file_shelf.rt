@@ -16,6 +16,7 @@ pub struct FileShelf<R: Files + Drop> {
 }
 
 impl<R: Files + Drop> FileShelf<R> {
+    /// A shelf of the files that `rt` may open. No read failed yet.
     pub fn new(rt: R) -> FileShelf<R>
         ensures { result ≡ record { rt = rt; faults = 0 } }
     {

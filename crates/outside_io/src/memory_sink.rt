@@ -31,7 +31,7 @@ impl Model for MemorySink {
 
 impl MemorySink {
     /// A sink that holds at most `room` bytes and takes at most `per_write` of them in one call. The writes with the
-    /// numbers `fail_at` fail; the first write has number 1. All memory is taken here.
+    /// numbers `fail_at` fail; the first write has number 1. All memory is taken here, and only want of it refuses.
     pub fn new(
         alloc: Global,
         room: usize,

@@ -14,6 +14,7 @@ pub enum ShelfFault {
     /// The content is longer than the limit of the read; `seen` is that limit and 1.
     #[error("too long: {seen} bytes and more")]
     TooLong { seen: u64 },
+    /// Want of memory.
     #[error("no memory")]
     Memory,
 }
@@ -26,7 +27,8 @@ pub trait Shelf {
     // For each name the number of reads that failed, which stays at 2 ^ 64 - 1 once there.
     ghost faults: { Self → List ℕ → ℕ };
 
-    /// Reads the content under a name, of at most `limit` bytes.
+    /// The whole content under a name, of at most `limit` bytes. Refuses a name that is missing or not read as Failed, and a
+    /// longer content as TooLong. What is held does not change.
     fn read_whole(&mut self, alloc: Global, name: &str, limit: u64) -> Result<Vec<u8>, ShelfFault>
         requires { limit < 2 ^ 64 - 1 }
         ensures whole { IfOk result (λ content. IsWhole (contents self.old) name.now limit content.items) }

@@ -19,7 +19,8 @@ pub trait Sink {
     // The number of writes that failed, which stays at 2 ^ 64 - 1 once there.
     ghost faults: { Self → ℕ };
 
-    /// Appends the first bytes of the piece and returns how many: at least one, where it is not empty.
+    /// Appends the first bytes of the piece and returns how many: at least one, where it is not empty. Refuses where it can
+    /// take none, and then nothing was written.
     fn write(&mut self, piece: &[u8]) -> Result<usize, SinkFailed>
         ensures within { IfOk result (λ n. n ≤ length piece.now) }
         ensures some { IfOk result (λ n. 0 < length piece.now → 0 < n) }
@@ -29,7 +30,8 @@ pub trait Sink {
         ensures rising { faults self.old ≤ faults self.new };
 }
 
-/// Writes all bytes, each time offering the rest up to `PIECE` bytes.
+/// Writes all bytes, each time offering the rest up to `PIECE` bytes. Refuses where one write fails, and then some first
+/// bytes were written.
 pub fn write_all<K: Sink>(out: &mut K, bytes: &[u8]) -> Result<(), SinkFailed>
     ensures gained { OnOk result (Gained (K.written out.old) (K.written out.new) bytes.now) }
     ensures failed { OnErr result (Rose (K.faults out.old) (K.faults out.new)) }

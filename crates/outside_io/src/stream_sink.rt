@@ -8,7 +8,9 @@ use std::io::{Stderr, Stdout, Write};
 /// One of the streams that a program writes to.
 #[derive(Drop)]
 pub enum StandardStream {
+    /// Standard output.
     Output(Stdout),
+    /// Standard error.
     Error(Stderr),
 }
 
@@ -36,6 +38,7 @@ pub struct StreamSink<W: Write + Drop> {
 }
 
 impl<W: Write + Drop> StreamSink<W> {
+    /// The sink of `stream`. No write failed yet.
     pub fn new(stream: W) -> StreamSink<W>
         ensures { result ≡ record { stream = stream; faults = 0 } }
     {

@@ -24,7 +24,7 @@ impl SureShelf {
         }
     }
 
-    /// Gives a name its content.
+    /// Gives a name its content. After want of memory the shelf holds what it held.
     pub fn put(&mut self, name: &str, content: Vec<u8>) -> Result<(), NoMemory>
         ensures named { OnOk result (held_in self.new.files name.now ≡ Some content.items) }
         ensures others { (other : List ℕ) → other ≢ name.now → held_in self.new.files other ≡ held_in self.old.files other }

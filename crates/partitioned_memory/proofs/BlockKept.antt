@@ -19,7 +19,7 @@ use Rattle.partitioned_memory.specs.declared.fact.Fact.{Fact}
 use Rattle.partitioned_memory.specs.declared.fact.Counted.{Counted}
 use Rattle.partitioned_memory.specs.Areas.{block_in, has_byte, same_area}
 use Rattle.partitioned_memory.specs.Lists.{Every, placed}
-use Rattle.partitioned_memory.specs.Held.{Held, after_block, count_before, counted_again, counted_more, facts_beside, facts_outside, interval_of_fact, is_counted, known_byte, one_block}
+use Rattle.partitioned_memory.specs.Held.{PartsHeld, after_block, count_before, counted_again, counted_more, facts_beside, facts_outside, interval_of_fact, is_counted, known_byte, one_block}
 use Rattle.partitioned_memory.specs.Well.{HasCount, IsWell, IsWellFact}
 use Rattle.partitioned_memory.specs.Describes.{AreBytes, GainsBlock, IsApart, IsDescribed, IsFresh, IsTrueOf, StartsAt, counts_one, is_byte_of, number_in}
 use Rattle.partitioned_memory.proofs.ListLaws.{Every-both, Every-filter, Every-kept, Every-weaker}
@@ -174,7 +174,7 @@ only-new r had base p q x none g h =
     elim ((g.own x).0 h) [ inl e ↦ e | inr k ↦ absurd (false≢true (sym none ∙ k.0)) ]
 
 -- the bytes that are known, in a block of the region at some base
-own-clean : {D : Type 0} (d : Values D) (ranges : List Range) (unset : List Span) (p q : Places) (b c : ℕ → ℕ) (h : Held D) (r : Region) (base : ℕ) → GainsBlock r (is_counted r h.blocks) base p q → IsWrite ranges q (In r) base (is_in_extent r) b c → IsFresh r base b c → IsDescribed d ranges unset p h b → (other : ℕ) (o : ℤ) (n : ℕ) → HasBase q r other → is_in_extent r o ≡ true → known_byte ranges unset h.dirty (In r) o ≡ Some n → c (place_at other o) ≡ n
+own-clean : {D : Type 0} (d : Values D) (ranges : List Range) (unset : List Span) (p q : Places) (b c : ℕ → ℕ) (h : PartsHeld D) (r : Region) (base : ℕ) → GainsBlock r (is_counted r h.blocks) base p q → IsWrite ranges q (In r) base (is_in_extent r) b c → IsFresh r base b c → IsDescribed d ranges unset p h b → (other : ℕ) (o : ℤ) (n : ℕ) → HasBase q r other → is_in_extent r o ≡ true → known_byte ranges unset h.dirty (In r) o ≡ Some n → c (place_at other o) ≡ n
 own-clean d ranges unset p q b c h r base g w fresh x other o n s e known =
     elim (cases_eq other base) [
       | inl same ↦
@@ -188,7 +188,7 @@ own-clean d ranges unset p q b c h r base g w fresh x other o n s e known =
           ]
     ]
 
-block-clean : {D : Type 0} (d : Values D) (ranges : List Range) (unset : List Span) (p q : Places) (b c : ℕ → ℕ) (h : Held D) (r : Region) (base : ℕ) → GainsBlock r (is_counted r h.blocks) base p q → IsWrite ranges q (In r) base (is_in_extent r) b c → IsFresh r base b c → IsDescribed d ranges unset p h b → (a : Area) (other : ℕ) (o : ℤ) (n : ℕ) → StartsAt q a other → is_byte_of ranges a o ≡ true → known_byte ranges unset h.dirty a o ≡ Some n → c (place_at other o) ≡ n
+block-clean : {D : Type 0} (d : Values D) (ranges : List Range) (unset : List Span) (p q : Places) (b c : ℕ → ℕ) (h : PartsHeld D) (r : Region) (base : ℕ) → GainsBlock r (is_counted r h.blocks) base p q → IsWrite ranges q (In r) base (is_in_extent r) b c → IsFresh r base b c → IsDescribed d ranges unset p h b → (a : Area) (other : ℕ) (o : ℤ) (n : ℕ) → StartsAt q a other → is_byte_of ranges a o ≡ true → known_byte ranges unset h.dirty a o ≡ Some n → c (place_at other o) ≡ n
 block-clean d ranges unset p q b c h r base g w fresh x a other o n s e known =
     elim (cases_Bool (same_area a (In r))) [
       | inl t ↦
@@ -200,7 +200,7 @@ block-clean d ranges unset p q b c h r base g w fresh x a other o n s e known =
           ∙ x.clean a other o n (starts-back r (is_counted r h.blocks) base p q a other g differs s) e known
     ]
 
-pub block-keeps : {D : Type 0} (d : Values D) (laws : IsLawful d) (ranges : List Range) (unset : List Span) (p q : Places) (b c : ℕ → ℕ) (h : Held D) (r : Region) (base : ℕ) → has_one_base r ≡ false → IsWell d h → IsValid p → IsValid q → GainsBlock r (is_counted r h.blocks) base p q → IsApart ranges q → IsFresh r base b c → IsDescribed d ranges unset p h b → IsDescribed d ranges unset q (after_block r h) c
+pub block-keeps : {D : Type 0} (d : Values D) (laws : IsLawful d) (ranges : List Range) (unset : List Span) (p q : Places) (b c : ℕ → ℕ) (h : PartsHeld D) (r : Region) (base : ℕ) → has_one_base r ≡ false → IsWell d h → IsValid p → IsValid q → GainsBlock r (is_counted r h.blocks) base p q → IsApart ranges q → IsFresh r base b c → IsDescribed d ranges unset p h b → IsDescribed d ranges unset q (after_block r h) c
 block-keeps {D} d laws ranges unset p q b c h r base block well valid new g apart fresh x =
     let w : IsWrite ranges q (In r) base (is_in_extent r) b c = record { apart = apart; starts = (g.own base).1 (inl refl); bytes = λ o e. e; written = fresh.others } in
     let facts = facts-apart d ranges p b r h.blocks h.facts block well.facts x.facts x.within in

@@ -26,7 +26,7 @@ use Rattle.partitioned_memory.specs.declared.fact.Dirty.{Dirty}
 use Rattle.partitioned_memory.specs.declared.fact.Counted.{Counted}
 use Rattle.partitioned_memory.specs.Areas.{has_byte, interval_at, is_marked, same_area}
 use Rattle.partitioned_memory.specs.Lists.{Every}
-use Rattle.partitioned_memory.specs.Held.{Held, after_forgetting, counts_below, covers_count, covers_fact, covers_held, found, interval_of_dirty, interval_of_fact, is_at, is_below, is_dirty, is_stack_below, joined, known_byte, known_half, known_number, lies_in, lies_in_one, read_of, value_read}
+use Rattle.partitioned_memory.specs.Held.{PartsHeld, after_forgetting, counts_below, covers_count, covers_fact, covers_held, found, interval_of_dirty, interval_of_fact, is_at, is_below, is_dirty, is_stack_below, joined, known_byte, known_half, known_number, lies_in, lies_in_one, read_of, value_read}
 use Rattle.partitioned_memory.specs.Describes.{AreBytes, IsApart, IsDescribed, IsTrueOf, IsWritten, StartsAt, counts_one, half_in, is_byte_of, number_in, stack_bytes_below}
 use Rattle.partitioned_memory.proofs.ListLaws.{Every-both, Every-weaker}
 use Rattle.partitioned_memory.proofs.Orders.{int_le-true, int_lt-false, int_lt-true, same_area-is, same_area-refl}
@@ -36,7 +36,7 @@ use Rattle.partitioned_memory.proofs.FactsKept.{AreTrue, facts-kept}
 
 -- ---- forgetting
 
-pub forget-keeps : {D : Type 0} (d : Values D) (ranges : List Range) (unset : List Span) (p : Places) (b c : ℕ → ℕ) (h : Held D) (high : ℤ) → IsApart ranges p → IsWritten p.stack (stack_bytes_below high) b c → IsDescribed d ranges unset p h b → IsDescribed d ranges unset p (after_forgetting high h) c
+pub forget-keeps : {D : Type 0} (d : Values D) (ranges : List Range) (unset : List Span) (p : Places) (b c : ℕ → ℕ) (h : PartsHeld D) (high : ℤ) → IsApart ranges p → IsWritten p.stack (stack_bytes_below high) b c → IsDescribed d ranges unset p h b → IsDescribed d ranges unset p (after_forgetting high h) c
 forget-keeps {D} d ranges unset p b c h high apart written x =
     let w : IsWrite ranges p (In Stack) p.stack (stack_bytes_below high) b c = record {
       apart = apart;
@@ -139,7 +139,7 @@ number-known look b base low B32 n tells e =
 interval-bytes : (ranges : List Range) (a : Area) (low size o : ℤ) → AreBytes ranges (interval_at a low size) → low ≤ℤ o → o <ℤ (low +ℤ size) → is_byte_of ranges a o ≡ true
 interval-bytes ranges a low size o h above below = h.each o (byte-from (interval_at a low size) a o (record { area = refl; low = above; high = below }))
 
-pub read-stands : {D : Type 0} (d : Values D) (laws : IsLawful d) (ranges : List Range) (unset : List Span) (p : Places) (b : ℕ → ℕ) (h : Held D) (a : Area) (base : ℕ) (low : ℤ) (w : Width) → IsValid p → StartsAt p a base → AreBytes ranges (interval_at a low (pos (bytes_of w))) → IsDescribed d ranges unset p h b → d.stands (read_of d ranges unset a low w h) p (number_in b base low w)
+pub read-stands : {D : Type 0} (d : Values D) (laws : IsLawful d) (ranges : List Range) (unset : List Span) (p : Places) (b : ℕ → ℕ) (h : PartsHeld D) (a : Area) (base : ℕ) (low : ℤ) (w : Width) → IsValid p → StartsAt p a base → AreBytes ranges (interval_at a low (pos (bytes_of w))) → IsDescribed d ranges unset p h b → d.stands (read_of d ranges unset a low w h) p (number_in b base low w)
 unfolding Tells
 read-stands {D} d laws ranges unset p b h a base low w valid start bytes x =
     let known = known_number (known_byte ranges unset h.dirty a) low w in
@@ -207,7 +207,7 @@ covers-fact d laws ranges p b valid facts f h e =
       subst (AreBytes ranges) same k.1,
     ))
 
-pub covers-describes : {D : Type 0} (d : Values D) (laws : IsLawful d) (ranges : List Range) (unset : List Span) (p : Places) (b : ℕ → ℕ) (t s : Held D) → IsValid p → covers_held d t s ≡ true → IsDescribed d ranges unset p s b → IsDescribed d ranges unset p t b
+pub covers-describes : {D : Type 0} (d : Values D) (laws : IsLawful d) (ranges : List Range) (unset : List Span) (p : Places) (b : ℕ → ℕ) (t s : PartsHeld D) → IsValid p → covers_held d t s ≡ true → IsDescribed d ranges unset p s b → IsDescribed d ranges unset p t b
 covers-describes d laws ranges unset p b t s valid e x =
     let first = and_parts (list_all (covers_fact d s.facts) t.facts) (list_all (lies_in t.dirty) s.dirty && list_all (covers_count s.blocks) t.blocks) e in
     let second = and_parts (list_all (lies_in t.dirty) s.dirty) (list_all (covers_count s.blocks) t.blocks) first.1 in

@@ -20,9 +20,9 @@ use Rattle.partitioned_memory.specs.declared.fact.Fact.{Fact}
 use Rattle.partitioned_memory.specs.declared.fact.Counted.{Counted}
 use Rattle.partitioned_memory.specs.Areas.{block_in, has_byte, interval_at, interval_to, is_marked, is_off}
 use Rattle.partitioned_memory.specs.Lists.{Every, placed}
-use Rattle.partitioned_memory.specs.Held.{Held, after_exact, after_inside, after_interval, dirty_after, fact_before, facts_off, facts_with, interval_of_fact, is_counted, is_many, known_byte}
+use Rattle.partitioned_memory.specs.Held.{PartsHeld, after_exact, after_inside, after_interval, dirty_after, fact_before, facts_off, facts_with, interval_of_fact, is_counted, is_many, known_byte}
 use Rattle.partitioned_memory.specs.Well.{HasCount}
-use Rattle.partitioned_memory.specs.Describes.{AreBytes, IsApart, IsDescribed, IsTrueOf, IsWritten, StartsAt, bytes_in, counts_one, is_byte_of, number_in}
+use Rattle.partitioned_memory.specs.Describes.{AreBytes, IsApart, IsDescribed, IsTrueOf, IsWritten, SameInAreas, StartsAt, bytes_in, counts_one, is_byte_of, number_in}
 use Rattle.partitioned_memory.proofs.ListLaws.{Every-both, Every-filter, Every-kept, Every-placed, Every-weaker}
 use Rattle.partitioned_memory.proofs.Orders.{int_lt-true}
 use Rattle.partitioned_memory.proofs.Bytes.{IsWrite, byte-from, byte-is, byte-kept, clean-after, first-marked, known-from, known-is, number-kept, off-no_byte}
@@ -78,7 +78,7 @@ not_many-one r (c ∷ cs) e f =
       | inr x ↦ or_right (same_region c.region r && not c.many) (counts_one r cs) (not_many-one r cs x parts.1)
     ]
 
-pub one-base : {D : Type 0} (d : Values D) (ranges : List Range) (unset : List Span) (p : Places) (h : Held D) (b : ℕ → ℕ) (a : Area) (base other : ℕ) → IsDescribed d ranges unset p h b → HasCount h.blocks (block_in a) → is_many a h.blocks ≡ false → StartsAt p a base → StartsAt p a other → other ≡ base
+pub one-base : {D : Type 0} (d : Values D) (ranges : List Range) (unset : List Span) (p : Places) (h : PartsHeld D) (b : ℕ → ℕ) (a : Area) (base other : ℕ) → IsDescribed d ranges unset p h b → HasCount h.blocks (block_in a) → is_many a h.blocks ≡ false → StartsAt p a base → StartsAt p a other → other ≡ base
 one-base d ranges unset p h b Image base other w counted many s t = t ∙ sym s
 one-base d ranges unset p h b (In Stack) base other w counted many s t = t ∙ sym s
 one-base d ranges unset p h b (In Fs) base other w counted many s t = t ∙ sym s
@@ -89,7 +89,7 @@ one-base d ranges unset p h b (In (Block site size zeroed)) base other w counted
 -- ---- clean bytes
 
 -- bytes that are known after a write of an interval are as they are known
-pub clean-kept : {D : Type 0} (d : Values D) (ranges : List Range) (unset : List Span) (p : Places) (h : Held D) (i : Interval) (base : ℕ) (b c : ℕ → ℕ) → IsWrite ranges p i.area base (bytes_in i) b c → IsDescribed d ranges unset p h b → (a : Area) (other : ℕ) (o : ℤ) (n : ℕ) → StartsAt p a other → is_byte_of ranges a o ≡ true → known_byte ranges unset (dirty_after i h.dirty) a o ≡ Some n → c (place_at other o) ≡ n
+pub clean-kept : {D : Type 0} (d : Values D) (ranges : List Range) (unset : List Span) (p : Places) (h : PartsHeld D) (i : Interval) (base : ℕ) (b c : ℕ → ℕ) → IsWrite ranges p i.area base (bytes_in i) b c → IsDescribed d ranges unset p h b → (a : Area) (other : ℕ) (o : ℤ) (n : ℕ) → StartsAt p a other → is_byte_of ranges a o ≡ true → known_byte ranges unset (dirty_after i h.dirty) a o ≡ Some n → c (place_at other o) ≡ n
 clean-kept d ranges unset p h i base b c w x a other o n s e known =
     let k = known-is ranges unset (dirty_after i h.dirty) a o n known in
     let after = clean-after i h.dirty a o k.clean in
@@ -103,31 +103,37 @@ clean-kept d ranges unset p h i base b c w x a other o n s e known =
 
 -- ---- the calls
 
-interval-keeps : {D : Type 0} (d : Values D) (ranges : List Range) (unset : List Span) (p : Places) (h : Held D) (i : Interval) (base : ℕ) (b c : ℕ → ℕ) → IsWrite ranges p i.area base (bytes_in i) b c → IsDescribed d ranges unset p h b → IsDescribed d ranges unset p (after_interval i h) c
+interval-keeps : {D : Type 0} (d : Values D) (ranges : List Range) (unset : List Span) (p : Places) (h : PartsHeld D) (i : Interval) (base : ℕ) (b c : ℕ → ℕ) → IsWrite ranges p i.area base (bytes_in i) b c → IsDescribed d ranges unset p h b → IsDescribed d ranges unset p (after_interval i h) c
 interval-keeps d ranges unset p h i base b c w x =
     let facts = off-kept d ranges p i base b c h.facts w (record { true_of = x.facts; within = x.within }) in
     record { facts = facts.true_of; within = facts.within; clean = clean-kept d ranges unset p h i base b c w x; single = x.single }
 
--- the parts do not change where nothing is written
-same-memory : {D : Type 0} (d : Values D) (ranges : List Range) (unset : List Span) (p : Places) (h : Held D) (b c : ℕ → ℕ) → ((n : ℕ) → c n ≡ b n) → IsDescribed d ranges unset p h b → IsDescribed d ranges unset p h c
-same-memory d ranges unset p h b c same x = record {
-  facts = Every-weaker (IsTrueOf d p b) (IsTrueOf d p c) h.facts (λ f t base s. subst (λ (n : ℕ). d.stands f.value p n) (sym (number-kept b c base f.low f.w (λ o low high. same (place_at base o)))) (t base s)) x.facts;
+-- a fact whose bytes are the same is as true as before
+fact-same : {D : Type 0} (d : Values D) (ranges : List Range) (p : Places) (b c : ℕ → ℕ) (f : Fact D) → SameInAreas ranges p b c → AreBytes ranges (interval_of_fact f) → IsTrueOf d p b f → IsTrueOf d p c f
+fact-same d ranges p b c f same bytes true_of base s =
+    let number = number-kept b c base f.low f.w (λ o low high. same f.area base o s (bytes.each o (byte-from (interval_of_fact f) f.area o (record { area = refl; low = low; high = high })))) in
+    subst (λ (n : ℕ). d.stands f.value p n) (sym number) (true_of base s)
+
+-- the parts describe what is the same in all areas
+pub beside-keeps : {D : Type 0} (d : Values D) (ranges : List Range) (unset : List Span) (p : Places) (b c : ℕ → ℕ) (h : PartsHeld D) → SameInAreas ranges p b c → IsDescribed d ranges unset p h b → IsDescribed d ranges unset p h c
+beside-keeps d ranges unset p b c h same x = record {
+  facts = Every-both (λ f. AreBytes ranges (interval_of_fact f)) (IsTrueOf d p b) (IsTrueOf d p c) h.facts (λ f bytes t. fact-same d ranges p b c f same bytes t) x.within x.facts;
   within = x.within;
-  clean = λ a base o n s e known. same (place_at base o) ∙ x.clean a base o n s e known;
+  clean = λ a base o n s e known. same a base o s e ∙ x.clean a base o n s e known;
   single = x.single;
 }
 
-pub inside-keeps : {D : Type 0} (d : Values D) (ranges : List Range) (unset : List Span) (p : Places) (b c : ℕ → ℕ) (h : Held D) (a : Area) (base : ℕ) (low high : ℤ) → IsApart ranges p → StartsAt p a base → AreBytes ranges (interval_to a low high) → IsWritten base (bytes_in (interval_to a low high)) b c → IsDescribed d ranges unset p h b → IsDescribed d ranges unset p (after_inside a low high h) c
+pub inside-keeps : {D : Type 0} (d : Values D) (ranges : List Range) (unset : List Span) (p : Places) (b c : ℕ → ℕ) (h : PartsHeld D) (a : Area) (base : ℕ) (low high : ℤ) → IsApart ranges p → StartsAt p a base → AreBytes ranges (interval_to a low high) → IsWritten base (bytes_in (interval_to a low high)) b c → IsDescribed d ranges unset p h b → IsDescribed d ranges unset p (after_inside a low high h) c
 inside-keeps {D} d ranges unset p b c h a base low high apart start bytes written x =
-    elim (int_lt high low) as (λ t. int_lt high low ≡ t → (let k : Held D = cond t h (after_interval (interval_to a low high) h) in IsDescribed d ranges unset p k c)) [
+    elim (int_lt high low) as (λ t. int_lt high low ≡ t → (let k : PartsHeld D = cond t h (after_interval (interval_to a low high) h) in IsDescribed d ranges unset p k c)) [
       | true ↦ λ e.
-          same-memory d ranges unset p h b c (λ n. written n (λ o in_it same.
+          beside-keeps d ranges unset p b c h (λ k other q s _. written (place_at other q) (λ o in_it same.
           let y = byte-is (interval_to a low high) a o in_it in
           omega (arith, ints, int_lt-true high low e, y.low, y.high))) x
       | false ↦ λ e. interval-keeps d ranges unset p h (interval_to a low high) base b c (record { apart = apart; starts = start; bytes = bytes.each; written = written }) x
     ] refl
 
-pub exact-keeps : {D : Type 0} (d : Values D) (ranges : List Range) (unset : List Span) (p : Places) (b c : ℕ → ℕ) (h : Held D) (a : Area) (base : ℕ) (low : ℤ) (w : Width) (v : D) → IsApart ranges p → StartsAt p a base → AreBytes ranges (interval_at a low (pos (bytes_of w))) → HasCount h.blocks (block_in a) → IsWritten base (bytes_in (interval_at a low (pos (bytes_of w)))) b c → d.stands v p (number_in c base low w) → IsDescribed d ranges unset p h b → IsDescribed d ranges unset p (after_exact d a low w v h) c
+pub exact-keeps : {D : Type 0} (d : Values D) (ranges : List Range) (unset : List Span) (p : Places) (b c : ℕ → ℕ) (h : PartsHeld D) (a : Area) (base : ℕ) (low : ℤ) (w : Width) (v : D) → IsApart ranges p → StartsAt p a base → AreBytes ranges (interval_at a low (pos (bytes_of w))) → HasCount h.blocks (block_in a) → IsWritten base (bytes_in (interval_at a low (pos (bytes_of w)))) b c → d.stands v p (number_in c base low w) → IsDescribed d ranges unset p h b → IsDescribed d ranges unset p (after_exact d a low w v h) c
 exact-keeps {D} d ranges unset p b c h a base low w v apart start bytes counted written stands x =
     let i = interval_at a low (pos (bytes_of w)) in
     let write : IsWrite ranges p a base (bytes_in i) b c = record { apart = apart; starts = start; bytes = bytes.each; written = written } in

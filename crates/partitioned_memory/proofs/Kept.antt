@@ -24,7 +24,7 @@ use Rattle.partitioned_memory.specs.declared.fact.Dirty.{Dirty}
 use Rattle.partitioned_memory.specs.declared.fact.Counted.{Counted}
 use Rattle.partitioned_memory.specs.Areas.{IsInside, IsBounded, area_cmp, bounds_of, block_in, by_area, hull, is_before, is_left, is_marked, is_off, same_area}
 use Rattle.partitioned_memory.specs.Lists.{Every, Ascends, placed}
-use Rattle.partitioned_memory.specs.Held.{Held, count_before, counted_again, counted_more, dirty_after, dirty_before, dirty_of, dirty_with, fact_before, fact_given, facts_beside, facts_off, facts_outside, facts_put, facts_with, interval_of_dirty, interval_of_fact, is_at, is_counted, is_many, one_block}
+use Rattle.partitioned_memory.specs.Held.{PartsHeld, count_before, counted_again, counted_more, dirty_after, dirty_before, dirty_of, dirty_with, fact_before, fact_given, facts_beside, facts_off, facts_outside, facts_put, facts_with, interval_of_dirty, interval_of_fact, is_at, is_counted, is_many, one_block}
 use Rattle.partitioned_memory.specs.Well.{HasCount, IsBlock, IsWell, IsWellDirty, IsWellFact, MayHold}
 use Rattle.partitioned_memory.proofs.ListLaws.{Every-weaker, Every-filter, Every-kept, Every-map, Every-none, Every-placed, Ascends-filter, Ascends-map, Ascends-placed}
 use Rattle.partitioned_memory.proofs.Orders.{Touches, area_total, area_cmp-equal, by_area-true, by_area-less, is_before-trans, is_left-trans, left-hull, touching}
@@ -45,7 +45,7 @@ AreWell-filter d blocks t facts h = record {
   each = Every-filter (IsWellFact d blocks) t facts h.each;
 }
 
-pub AreWell-of : {D : Type 0} (d : Values D) (h : Held D) → IsWell d h → AreWell d h.blocks h.facts
+pub AreWell-of : {D : Type 0} (d : Values D) (h : PartsHeld D) → IsWell d h → AreWell d h.blocks h.facts
 AreWell-of d h w = record { ascend = w.facts_ascend; each = w.facts }
 
 -- a fact among those that share no byte with it
@@ -174,7 +174,7 @@ pub record AreWellDirty (blocks : List Counted) (dirty : List Dirty) : Type 0 wh
   pub ascend : Ascends dirty_before dirty
   pub each : Every (λ r. IsWellDirty blocks (interval_of_dirty r)) dirty
 
-pub AreWellDirty-of : {D : Type 0} (d : Values D) (h : Held D) → IsWell d h → AreWellDirty h.blocks h.dirty
+pub AreWellDirty-of : {D : Type 0} (d : Values D) (h : PartsHeld D) → IsWell d h → AreWellDirty h.blocks h.dirty
 AreWellDirty-of d h w = record { ascend = w.dirty_ascends; each = w.dirty }
 
 pub AreWellDirty-bounded : (blocks : List Counted) (dirty : List Dirty) → AreWellDirty blocks dirty → Every (λ r. IsBounded (interval_of_dirty r)) dirty
@@ -310,15 +310,15 @@ AreWellDirty-more r blocks dirty h = record {
 
 -- ---- together
 
-pub IsWell-from : {D : Type 0} (d : Values D) (h : Held D) → AreWell d h.blocks h.facts → AreWellDirty h.blocks h.dirty → AreWellCounts h.blocks → IsWell d h
+pub IsWell-from : {D : Type 0} (d : Values D) (h : PartsHeld D) → AreWell d h.blocks h.facts → AreWellDirty h.blocks h.dirty → AreWellCounts h.blocks → IsWell d h
 IsWell-from d h f q c = record { facts_ascend = f.ascend; facts = f.each; dirty_ascends = q.ascend; dirty = q.each; blocks_ascend = c.ascend; blocks = c.each }
 
-pub AreWellCounts-of : {D : Type 0} (d : Values D) (h : Held D) → IsWell d h → AreWellCounts h.blocks
+pub AreWellCounts-of : {D : Type 0} (d : Values D) (h : PartsHeld D) → IsWell d h → AreWellCounts h.blocks
 AreWellCounts-of d h w = record { ascend = w.blocks_ascend; each = w.blocks }
 
 -- ---- each call, by what it leaves
 
-abbrev held : {D : Type 0} → List (Fact D) → List Dirty → List Counted → Held D
+abbrev held : {D : Type 0} → List (Fact D) → List Dirty → List Counted → PartsHeld D
 held facts dirty blocks = record { facts = facts; dirty = dirty; blocks = blocks }
 
 pub filtered-kept : {D : Type 0} (d : Values D) (t : Fact D → Bool) (facts new : List (Fact D)) (dirty : List Dirty) (blocks : List Counted) → IsWell d (record { facts = facts; dirty = dirty; blocks = blocks }) → new ≡ filter t facts → IsWell d (record { facts = new; dirty = dirty; blocks = blocks })

@@ -6,3 +6,4 @@ pub mod FactsKept
 pub mod CallsKept
 pub mod BlockKept
 pub mod Spread
+pub mod Holding

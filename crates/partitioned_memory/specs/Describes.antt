@@ -19,7 +19,7 @@ use Rattle.partitioned_memory.specs.declared.fact.Fact.{Fact}
 use Rattle.partitioned_memory.specs.declared.fact.Counted.{Counted}
 use Rattle.partitioned_memory.specs.Areas.{has_byte, is_zeroed}
 use Rattle.partitioned_memory.specs.Lists.{Every}
-use Rattle.partitioned_memory.specs.Held.{Held, interval_of_fact, known_byte}
+use Rattle.partitioned_memory.specs.Held.{PartsHeld, interval_of_fact, known_byte}
 
 -- ---- bytes and their addresses
 
@@ -72,7 +72,7 @@ abbrev pub counts_one : Region → List Counted → Bool
 counts_one r blocks = list_any (λ c. same_region c.region r && not c.many) blocks
 
 -- the parts describe the bytes by places
-pub record IsDescribed {D : Type 0} (d : Values D) (ranges : List Range) (unset : List Span) (p : Places) (h : Held D) (b : ℕ → ℕ) : Type 0 where
+pub record IsDescribed {D : Type 0} (d : Values D) (ranges : List Range) (unset : List Span) (p : Places) (h : PartsHeld D) (b : ℕ → ℕ) : Type 0 where
   -- each fact stands, at every block of its region
   pub facts : Every (IsTrueOf d p b) h.facts
   -- the bytes of each fact are bytes of its area, those of an image fact of the segments
@@ -83,6 +83,10 @@ pub record IsDescribed {D : Type 0} (d : Values D) (ranges : List Range) (unset 
   pub single : (r : Region) (base other : ℕ) → counts_one r h.blocks ≡ true → HasBase p r base → HasBase p r other → base ≡ other
 
 -- ---- writes
+
+-- every byte of every area is the same
+abbrev pub SameInAreas : List Range → Places → (ℕ → ℕ) → (ℕ → ℕ) → Type 0
+SameInAreas ranges p b c = (a : Area) (base : ℕ) (o : ℤ) → StartsAt p a base → is_byte_of ranges a o ≡ true → c (place_at base o) ≡ b (place_at base o)
 
 -- of all bytes, only some of an area were written: those at a base plus offsets that pass a test
 abbrev pub IsWritten : ℕ → (ℤ → Bool) → (ℕ → ℕ) → (ℕ → ℕ) → Type 0

@@ -8,7 +8,7 @@ use Rattle.bit_words.specs.declared.width.Width.TheVariants.{B8, B16, B32}
 use Rattle.bit_words.specs.Width.{bytes_of}
 use Rattle.memory_map.specs.declared.span.Span.{Span}
 use Rattle.memory_map.specs.Range.{Range, byte_at}
-use Rattle.address_ranges.specs.Ranges.{is_in_ranges}
+use Rattle.memory_map.specs.Spans.{is_in_ranges}
 use Rattle.address_regions.specs.declared.region.Region.{Region}
 use Rattle.address_regions.specs.declared.region.Region.TheVariants.{Stack}
 use Rattle.address_regions.specs.Same.{same_region}
@@ -23,12 +23,12 @@ use Rattle.partitioned_memory.specs.Areas.{area_cmp, same_area, interval_at, int
 use Rattle.partitioned_memory.specs.Lists.{placed}
 
 -- facts, dirty ranges and counts of blocks, each list ascending
-pub record Held (D : Type 0) : Type 0 where
+pub record PartsHeld (D : Type 0) : Type 0 where
   pub facts : List (Fact D)
   pub dirty : List Dirty
   pub blocks : List Counted
 
-abbrev pub nothing_held : {D : Type 0} → Held D
+abbrev pub nothing_held : {D : Type 0} → PartsHeld D
 nothing_held = record { facts = []; dirty = []; blocks = [] }
 
 -- ---- where they lie, and their order
@@ -175,11 +175,11 @@ value_read d None (Some n) = d.number n
 value_read d None None = d.any
 
 -- a load at one known place
-abbrev pub read_of : {D : Type 0} → Values D → List Range → List Span → Area → ℤ → Width → Held D → D
+abbrev pub read_of : {D : Type 0} → Values D → List Range → List Span → Area → ℤ → Width → PartsHeld D → D
 read_of d ranges unset a low w h = value_read d (found a low w h.facts) (known_number (known_byte ranges unset h.dirty a) low w)
 
 -- a store at one known place
-abbrev pub after_exact : {D : Type 0} → Values D → Area → ℤ → Width → D → Held D → Held D
+abbrev pub after_exact : {D : Type 0} → Values D → Area → ℤ → Width → D → PartsHeld D → PartsHeld D
 after_exact d a low w v h =
     let i = interval_at a low (pos (bytes_of w)) in
     record {
@@ -189,24 +189,24 @@ after_exact d a low w v h =
     }
 
 -- any bytes of an interval are written
-abbrev pub after_interval : {D : Type 0} → Interval → Held D → Held D
+abbrev pub after_interval : {D : Type 0} → Interval → PartsHeld D → PartsHeld D
 after_interval i h = record { facts = facts_off i h.facts; dirty = dirty_after i h.dirty; blocks = h.blocks }
 
 -- any bytes from one offset to another, both included, are written
-abbrev pub after_inside : {D : Type 0} → Area → ℤ → ℤ → Held D → Held D
+abbrev pub after_inside : {D : Type 0} → Area → ℤ → ℤ → PartsHeld D → PartsHeld D
 after_inside a low high h = if int_lt high low then h else after_interval (interval_to a low high) h
 
 -- the facts of the stack with a byte below an offset go
-abbrev pub after_forgetting : {D : Type 0} → ℤ → Held D → Held D
+abbrev pub after_forgetting : {D : Type 0} → ℤ → PartsHeld D → PartsHeld D
 after_forgetting high h =
     record { facts = filter (λ f. not (is_stack_below high f)) h.facts; dirty = h.dirty; blocks = h.blocks }
 
 -- a further block of a region: where there was one already, its facts go
-abbrev pub after_block : {D : Type 0} → Region → Held D → Held D
+abbrev pub after_block : {D : Type 0} → Region → PartsHeld D → PartsHeld D
 after_block r h = record { facts = facts_beside r h.blocks h.facts; dirty = h.dirty; blocks = counted_more r h.blocks }
 
 -- the fact of a spot and a width gets a value, and goes where that has rank 0
-abbrev pub after_fact : {D : Type 0} → Values D → Area → ℤ → Width → D → Held D → Held D
+abbrev pub after_fact : {D : Type 0} → Values D → Area → ℤ → Width → D → PartsHeld D → PartsHeld D
 after_fact d a low w v h = record { facts = facts_put d a low w v h.facts; dirty = h.dirty; blocks = h.blocks }
 
 -- ---- covering
@@ -236,6 +236,6 @@ abbrev pub covers_count : List Counted → Counted → Bool
 covers_count blocks c = list_any (counts_below c) blocks
 
 -- t covers s: each fact of t has one of s below it, the dirty ranges of s lie in those of t, and each region that t counts is counted in s, One of t by One
-abbrev pub covers_held : {D : Type 0} → Values D → Held D → Held D → Bool
+abbrev pub covers_held : {D : Type 0} → Values D → PartsHeld D → PartsHeld D → Bool
 covers_held d t s =
     list_all (covers_fact d s.facts) t.facts && (list_all (lies_in t.dirty) s.dirty && list_all (covers_count s.blocks) t.blocks)

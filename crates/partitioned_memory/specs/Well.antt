@@ -11,7 +11,7 @@ use Rattle.partitioned_memory.specs.declared.fact.Fact.{Fact}
 use Rattle.partitioned_memory.specs.declared.fact.Counted.{Counted}
 use Rattle.partitioned_memory.specs.Areas.{IsInside, is_marked, block_in}
 use Rattle.partitioned_memory.specs.Lists.{Every, Ascends}
-use Rattle.partitioned_memory.specs.Held.{Held, interval_of_fact, interval_of_dirty, fact_before, dirty_before, count_before, is_counted}
+use Rattle.partitioned_memory.specs.Held.{PartsHeld, interval_of_fact, interval_of_dirty, fact_before, dirty_before, count_before, is_counted}
 
 -- a block region, where one is named, has a count
 abbrev pub HasCount : List Counted → Option Region → Type 0
@@ -45,7 +45,7 @@ abbrev pub IsBlock : Counted → Type 0
 IsBlock c = has_one_base c.region ≡ false
 
 -- the three lists ascend: facts share no byte, dirty ranges neither share a byte nor touch, and each block region is counted once
-pub record IsWell {D : Type 0} (d : Values D) (h : Held D) : Type 0 where
+pub record IsWell {D : Type 0} (d : Values D) (h : PartsHeld D) : Type 0 where
   pub facts_ascend : Ascends fact_before h.facts
   pub facts : Every (IsWellFact d h.blocks) h.facts
   pub dirty_ascends : Ascends dirty_before h.dirty

@@ -38,7 +38,7 @@ pub struct Counted {
 }
 
 /// An offset in an area.
-#[derive(Clone, Copy, Debug, PartialEq, Eq)]
+#[derive(Clone, Copy, Debug, PartialEq, Eq, Hash)]
 pub struct Spot {
     pub area: Area,
     pub low: i64,

@@ -1,5 +1,5 @@
-ghost use Rattle.std.specs.Prelude.{◌≡◌, map, pos};
-ghost use Rattle.bit_words.specs.Width.{bytes_of};
+ghost use Rattle.std.specs.Prelude.{◌≡◌, ◌<◌, ◌^◌, IfSome, map, pos};
+ghost use Rattle.bit_words.specs.Width.{bits_of, bytes_of};
 ghost use Rattle.memory_map.specs.Map.{range_of};
 ghost use Rattle.partitioned_memory.specs.Areas.{IsInside, IsOffset, interval_at};
 ghost use Rattle.partitioned_memory.specs.declared.area.Area.TheVariants.{Image};
@@ -8,9 +8,8 @@ ghost use Rattle.partitioned_memory.specs.Held.{first_byte, known_byte, known_ha
 use crate::area::{Area, is_zeroed};
 use crate::dirty_list::is_dirty;
 use crate::fact::Dirty;
-use address_ranges::Ranges;
 use bit_words::Width;
-use memory_map::Segments;
+use memory_map::{Ranges, Segments};
 
 /// What is known of an area's bytes without a fact.
 #[derive(Clone, Copy)]
@@ -27,7 +26,7 @@ fn loaded_byte(segments: &Segments, unset: &Ranges, o: i64) -> Option<u8>
     ensures { result ≡ loaded_byte (map range_of segments.now) unset.now o }
 {
     let a = o as u32;
-    if unset.has(a) {
+    if unset.has(u64::from(a)) {
         None
     } else {
         segments.byte_at(a)
@@ -82,11 +81,12 @@ impl Known<'_> {
     /// The number of the bytes of a width, where all are known.
     pub(crate) fn number(&self, o: i64, w: Width) -> Option<u32>
         requires { IsInside (interval_at self.now.area o (pos (bytes_of w))) }
-        ensures { result ≡ known_number (known_byte (map range_of self.now.segments.now) self.now.unset.now self.now.dirty.now self.now.area) o w }
+        ensures value { result ≡ known_number (known_byte (map range_of self.now.segments.now) self.now.unset.now self.now.dirty.now self.now.area) o w }
+        ensures fits { IfSome result (λ n. n < 2 ^ bits_of w) }
     {
         match w {
-            Width::B8 => self.byte(o).map(u32::from),
-            Width::B16 => self.half(o).map(u32::from),
+            Width::B8 => Some(u32::from(self.byte(o)?)),
+            Width::B16 => Some(u32::from(self.half(o)?)),
             Width::B32 => self.word(o),
         }
     }

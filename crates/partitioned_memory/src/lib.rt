@@ -1,5 +1,5 @@
 // What a state of the analysis knows of memory: facts by area and offset, bytes written unknown, and how many blocks there are of each region.
-// It stands on `bit_words`, `memory_map`, `address_ranges`, `address_regions` and `domain_laws`.
+// It stands on `bit_words`, `memory_map`, `address_regions` and `domain_laws`.
 // Its contract: `Parts` is three ascending lists, and each call is its definition over them (`specs/Held.antt`), for every domain.
 #![tactic(auto)]
 

@@ -16,11 +16,10 @@ use crate::fact_list::{
     cover_facts, facts_beside, facts_not_below, facts_off, facts_put, facts_with, found,
 };
 use crate::known::Known;
-use address_ranges::Ranges;
 use address_regions::Region;
 use bit_words::{NoMemory, Width};
 use domain_laws::Domain;
-use memory_map::Segments;
+use memory_map::{Ranges, Segments};
 use std::alloc::Global;
 use std::marker::Model;
 
@@ -39,10 +38,10 @@ pub struct Parts<D: Domain> {
 
 impl<D: Domain> Model for Parts<D> {
     ghost use Rattle.domain_laws.specs.Made.{values_of};
-    ghost use Rattle.partitioned_memory.specs.Held.{Held};
+    ghost use Rattle.partitioned_memory.specs.Held.{PartsHeld};
     ghost use Rattle.partitioned_memory.specs.Well.{IsWell};
 
-    ghost Value = { Held D };
+    ghost Value = { PartsHeld D };
 
     ghost view = { λ p. record { facts = p.facts.items; dirty = p.dirty.items; blocks = p.blocks.items } };
 
@@ -80,9 +79,11 @@ impl<D: Domain> Parts<D> {
     /// A load at one known place: the value of the fact of that spot and width.
     /// Without one it is the number of the bytes as they were at the start, where each is known and none is dirty, and else any.
     /// At the start the bytes of the image outside of unset ranges are known, and those of zeroed blocks are 0.
+    /// What is read may be held at its width.
     pub fn read(&self, segments: &Segments, unset: &Ranges, area: Area, low: i64, w: Width) -> D
         requires { IsInside (interval_at area low (pos (bytes_of w))) }
-        ensures { result ≡ read_of (values_of D.Domain.own D.eq) (map range_of segments.now) unset.now area low w self.now }
+        ensures value { result ≡ read_of (values_of D.Domain.own D.eq) (map range_of segments.now) unset.now area low w self.now }
+        ensures holds { MayHold (values_of D.Domain.own D.eq) self.now.blocks w result }
     {
         let known = Known {
             segments,
@@ -177,6 +178,21 @@ impl<D: Domain> Parts<D> {
         self.facts = facts;
         self.blocks = blocks;
         Ok(())
+    }
+
+    /// The facts, in order.
+    pub fn facts(&self) -> &[Fact<D>]
+        ensures { result.now ≡ self.now.facts }
+    {
+        self.facts.as_slice()
+    }
+
+    /// The facts again, in order.
+    pub fn copy_facts(&self) -> Result<Vec<Fact<D>>, NoMemory>
+        ensures facts { IfOk result (λ copy. copy.items ≡ self.now.facts) }
+        ensures well { IsWell (values_of D.Domain.own D.eq) self.now }
+    {
+        Ok(Vec::from_slice(self.alloc(), &self.facts)?)
     }
 
     /// The i-th fact, counted from 0.

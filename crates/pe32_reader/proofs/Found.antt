@@ -7,7 +7,8 @@ use Rattle.std.proofs.lemmas.List.{length-take, length-drop}
 use Rattle.std.proofs.lemmas.List.Elements.{All-head, All-tail}
 use Rattle.memory_map.specs.Range.{Range, end_of, USER_END, IsInUserSpace}
 use Rattle.memory_map.proofs.Faults.{and-parts}
-use Rattle.file_pieces.specs.Found.{bytes_at, holds}
+use Rattle.memory_map.specs.Range.{holds}
+use Rattle.file_pieces.specs.Found.{bytes_at}
 use Rattle.file_pieces.proofs.Lookups.{held, bytes_at-found, bytes_at-none}
 
 pub length-bytes_at : (ranges : List Range) (a n : ℕ) (bytes : List ℕ) → n ≢ 0 → Some bytes ≡ bytes_at ranges a n → length bytes ≡ n

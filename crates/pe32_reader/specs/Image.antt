@@ -1,9 +1,8 @@
 -- The image of a file: what its headers map, with the place of each import in its slot.
-use Rattle.std.specs.Prelude.{ℕ, ◌+◌, ◌-◌, List, ◌++◌, take, drop, map, fold, Option, Some, None, Result, Ok, Err, if◌then◌else◌}
-use Rattle.std.specs.Int.{w32, to_le_bytes}
+use Rattle.std.specs.Prelude.{ℕ, List, map, fold, Option, Some, None, Result, Ok, Err}
 use Rattle.memory_map.specs.Range.{Range}
 use Rattle.memory_map.specs.Map.{range_of}
-use Rattle.file_pieces.specs.Found.{holds}
+use Rattle.memory_map.specs.Patch.{put_word}
 use Rattle.pe_headers.specs.Headers.{image_base}
 use Rattle.pe_headers.specs.Layout.{ranges_of, file_fault, entry_of, import_directory}
 use Rattle.pe_headers.specs.declared.fault.PeFault.{PeFault}
@@ -11,17 +10,9 @@ use Rattle.pe32_reader.specs.Imports.{Imported, imports_of, and_then}
 use Rattle.pe32_reader.specs.declared.slots.Slot.{Slot}
 use Rattle.pe32_reader.specs.declared.file.PeFile.{PeFile}
 
--- bytes with a word at a place
-abbrev pub with_word : List ℕ → ℕ → ℕ → List ℕ
-with_word bytes at word = take at bytes ++ to_le_bytes w32 word ++ drop (at + 4) bytes
-
--- a range after a slot received its place, which it does in the range that has it
-abbrev pub filled : Slot → Range → Range
-filled slot r = if holds slot.at 4 r then record r { bytes = with_word r.bytes (slot.at - r.low) slot.place } else r
-
 -- ranges after each slot received its place in turn
 unfoldable pub with_slots : List Range → List Slot → List Range
-with_slots ranges slots = fold (λ held slot. map (filled slot) held) ranges slots
+with_slots ranges slots = fold (λ held slot. put_word slot.at slot.place held) ranges slots
 
 -- an image as it is loaded
 pub record PeImage : Type 0 where

@@ -24,7 +24,8 @@ const MOST_SECTIONS: u16 = 96;
 
 const SECTION_HEADER_SIZE: u64 = 40;
 
-fn lacks_magic(bytes: &[u8]) -> bool
+/// Whether a file does not begin with `MZ`.
+pub fn lacks_magic(bytes: &[u8]) -> bool
     ensures { result ≡ lacks_magic bytes.now }
 {
     !bytes.starts_with(b"MZ")

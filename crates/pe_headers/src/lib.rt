@@ -10,4 +10,5 @@ mod sections;
 
 pub use fault::PeFault;
 pub use fields::{address_from, entry, image_base, import_directory};
+pub use headers::lacks_magic;
 pub use sections::map_file;

@@ -1,3 +1,3 @@
 pub mod Run
-pub mod Seen
+pub mod Cells
 pub mod Flowing

@@ -4,18 +4,18 @@ ghost use Rattle.memory_map.specs.State.{memory};
 ghost use Rattle.x86_semantics.specs.Memory.{with_byte};
 ghost use Rattle.x86_semantics.specs.Registers.{register, with_register};
 ghost use Rattle.x86_semantics.specs.Operands.{at_address, segment_base, with_flags};
-ghost use Rattle.statement_lang.specs.Seen.{flags_of, registers_of};
+ghost use Rattle.statement_lang.specs.Cells.{flags_of};
 
 use crate::block::{Block, byte_in, is_writable_in, put_in};
-use crate::registers::Registers;
 use bit_words::Flags;
+use memory_map::Regs;
 use std::marker::Model;
 use x86_syntax::Seg;
 
 /// The machine's state, which contracts see as `MachineState`.
 #[derive(Drop)]
 pub struct Cells {
-    registers: Registers,
+    registers: Regs<u32>,
     eip: u32,
     flags: Flags,
     fs: u32,
@@ -26,17 +26,17 @@ pub struct Cells {
 
 impl Model for Cells {
     ghost use Rattle.memory_map.specs.State.{MachineState};
-    ghost use Rattle.statement_lang.specs.Seen.{flags_of, registers_of};
+    ghost use Rattle.statement_lang.specs.Cells.{flags_of};
 
     ghost Value = { MachineState };
 
-    ghost view = { λ c. record { registers = registers_of c.registers; eip = c.eip; flags = flags_of c.flags; fs = c.fs; gs = c.gs; stack = c.stack; ranges = c.ranges.items } };
+    ghost view = { λ c. record { registers = c.registers; eip = c.eip; flags = flags_of c.flags; fs = c.fs; gs = c.gs; stack = c.stack; ranges = c.ranges.items } };
 }
 
 impl Cells {
     /// A state of these registers, EIP, flags, bases of FS and GS, stack window and other ranges; takes no memory.
     pub fn new(
-        registers: Registers,
+        registers: Regs<u32>,
         eip: u32,
         flags: Flags,
         fs: u32,
@@ -44,7 +44,7 @@ impl Cells {
         stack: Block,
         ranges: Vec<Block>,
     ) -> Cells
-        ensures { result ≡ record { registers = registers_of registers; eip = eip; flags = flags_of flags; fs = fs; gs = gs; stack = stack; ranges = ranges.items } }
+        ensures { result ≡ record { registers = registers; eip = eip; flags = flags_of flags; fs = fs; gs = gs; stack = stack; ranges = ranges.items } }
     {
         Cells {
             registers,
@@ -58,12 +58,13 @@ impl Cells {
     }
 
     /// The general registers.
-    pub fn registers(&self) -> Registers
-        ensures { registers_of result ≡ self.now.registers }
+    pub fn registers(&self) -> Regs<u32>
+        ensures { result ≡ self.now.registers }
     {
         self.registers
     }
 
+    /// The address of the next instruction.
     pub fn eip(&self) -> u32
         ensures { result ≡ self.now.eip }
     {
@@ -82,7 +83,7 @@ impl Cells {
     pub fn register(&self, r: u8) -> u32
         ensures { result ≡ register r self.now }
     {
-        self.registers.get(r)
+        self.registers.get(r % 8)
     }
 
     /// The base of a segment.
@@ -122,7 +123,7 @@ impl Cells {
     pub fn set_register(&mut self, r: u8, v: u32)
         ensures { self.new ≡ with_register r v self.old }
     {
-        self.registers.set(r, v);
+        self.registers.set(r % 8, v);
     }
 
     /// Puts EIP at an address.

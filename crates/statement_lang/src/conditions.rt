@@ -1,7 +1,7 @@
 ghost use Rattle.std.specs.Prelude.{◌≡◌, ◌<◌, Bool, true};
 ghost use Rattle.x86_semantics.specs.Condition.{is_met};
 ghost use Rattle.statement_lang.specs.Run.{agreeing, all_are};
-ghost use Rattle.statement_lang.specs.Seen.{even_met, flags_of, has_all};
+ghost use Rattle.statement_lang.specs.Cells.{even_met, flags_of, has_all};
 
 use crate::rules::differ;
 use bit_words::Flags;

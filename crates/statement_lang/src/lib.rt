@@ -8,14 +8,12 @@ mod cells;
 mod conditions;
 mod memory;
 mod parts;
-mod registers;
 mod rules;
 mod running;
 mod stmt;
 
 pub use block::Block;
 pub use cells::Cells;
-pub use registers::Registers;
 pub use running::run_stmts;
 pub use stmt::{Ran, Source, Stmt, Stmts, Test};
 pub use x86_semantics::FlagRule;

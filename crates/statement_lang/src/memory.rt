@@ -2,7 +2,7 @@ ghost use Rattle.std.specs.Prelude.{◌≡◌, ◌<◌, ◌≤◌, ◌%◌, ◌^
 ghost use Rattle.bit_words.specs.Width.{bytes_of};
 ghost use Rattle.memory_map.specs.State.{memory};
 ghost use Rattle.x86_semantics.specs.Memory.{may_write_all, next_byte, number_at, stored, with_low_byte, with_number, word_at};
-ghost use Rattle.statement_lang.specs.Seen.{where_done};
+ghost use Rattle.statement_lang.specs.Cells.{where_done};
 
 use crate::Cells;
 use bit_words::Width;

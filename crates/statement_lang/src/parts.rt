@@ -2,7 +2,7 @@ ghost use Rattle.std.specs.Prelude.{◌≡◌, ◌<◌, ◌+◌, ◌*◌, ◌^�
 ghost use Rattle.bit_words.specs.Width.{bits_of, signed_of};
 ghost use Rattle.x86_semantics.specs.Registers.{part, with_part};
 ghost use Rattle.x86_semantics.specs.Products.{dividend, divided, divided_signed, divided_unsigned, signed_dividend, with_long};
-ghost use Rattle.statement_lang.specs.Seen.{where_done};
+ghost use Rattle.statement_lang.specs.Cells.{where_done};
 
 use crate::Cells;
 use bit_words::{Op, Width, apply};

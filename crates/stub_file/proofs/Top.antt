@@ -3,31 +3,20 @@ use Rattle.std.proofs.Common.{◌≡◌, ◌≤◌, ℕ, Bool, true, false, not,
 use Rattle.std.specs.List.{list_all, list_any}
 use Rattle.std.specs.Option.{option_map_or}
 use Rattle.std.proofs.lemmas.Bool.{and_parts, eqb-true, false≢true, leb-true, not-false, or_cases}
+use Rattle.memory_map.specs.Alignment.{is_alignment}
 use Rattle.memory_map.specs.Name.{is_name}
+use Rattle.memory_map.proofs.Alignments.{alignment_at_most}
 use Rattle.toml.specs.Data.{Data, Members, as_table}
 use Rattle.stub_file.specs.Document.{number_at, number_of, value_at}
 use Rattle.stub_file.specs.Entries.{OrMemory}
 use Rattle.stub_file.specs.Faults.{HasFault, is_out, is_out_of_range, stub_fault, stub_has, table_fault, table_has, top_fault}
-use Rattle.stub_file.specs.Rules.{is_alignment}
 use Rattle.stub_file.specs.Stubs.{IsDocument, Refuses, align_is_kept}
 use Rattle.stub_file.specs.declared.fault.StubFault.{StubFault}
 use Rattle.stub_file.specs.declared.fault.StubFault.TheVariants.{NotToml, UnknownKey, WrongKind, OutOfRange, Both, Memory}
 use Rattle.stub_file.specs.declared.fault.TheConstants.{FAULTS}
 use Rattle.stub_file.specs.declared.keys.Key.TheVariants as key
-use Rattle.stub_file.specs.declared.keys.TheConstants.{ALIGNMENTS, TOP_KEYS}
+use Rattle.stub_file.specs.declared.keys.TheConstants.{TOP_KEYS}
 use Rattle.stub_file.proofs.Tables.{at_most, find_all, none_at, not_found}
-
-among_at_most : (n limit : ℕ) (xs : List ℕ) → list_all (λ x. nat_le x limit) xs ≡ true → list_any (nat_eq n) xs ≡ true → n ≤ limit
-among_at_most n limit [] h e = absurd (false≢true e)
-among_at_most n limit (x ∷ xs) h e =
-    let parts = and_parts (nat_le x limit) (list_all (λ x. nat_le x limit) xs) h in
-    elim (or_cases (nat_eq n x) (list_any (nat_eq n) xs) e) [
-      | inl here ↦ omega (arith, eqb-true n x here, leb-true x limit parts.0)
-      | inr there ↦ among_at_most n limit xs parts.1 there
-    ]
-
-alignment_at_most : (n : ℕ) → is_alignment n ≡ true → n ≤ 4096
-alignment_at_most n h = among_at_most n 4096 ALIGNMENTS refl h
 
 in_range : (t : Members) → top_fault t ≡ None → option_map_or (λ d. not (option_map_or is_alignment (number_of d) false)) (value_at key.StackAlign t) false ≡ false
 unfolding top_fault table_has is_out_of_range

@@ -2,6 +2,7 @@
 use Rattle.std.specs.Prelude.{ℕ, ◌/◌, ◌%◌, ◌==◌, ◌&&◌, Bool, true, false, List, length, Option, Some, None, is_some, nat_eq, nat_le, nat_lt, bytes_eq}
 use Rattle.std.specs.List.{list_all, list_any}
 use Rattle.std.specs.Option.{option_map_or}
+use Rattle.memory_map.specs.Alignment.{is_alignment}
 use Rattle.toml.specs.Data.{Data, as_str, as_integer, as_bool, as_array, as_table, Members}
 use Rattle.stub_file.specs.Document.{items_of, number_of, value_at}
 use Rattle.stub_file.specs.Keys.{word_name}
@@ -12,7 +13,7 @@ use Rattle.stub_file.specs.declared.keys.Need.TheVariants.{Required, Choice}
 use Rattle.stub_file.specs.declared.keys.Numbers.{Numbers}
 use Rattle.stub_file.specs.declared.keys.Rule.{Rule}
 use Rattle.stub_file.specs.declared.keys.Word.{Word}
-use Rattle.stub_file.specs.declared.keys.TheConstants.{ALIGNMENTS, REPLIES}
+use Rattle.stub_file.specs.declared.keys.TheConstants.{REPLIES}
 
 -- an array of tables
 abbrev pub items_are_tables : Data → Bool
@@ -35,9 +36,6 @@ is_among m n = nat_le m.low n && nat_le n m.high
 -- a multiple of 4 up to 64
 abbrev pub is_size_of_arguments : ℕ → Bool
 is_size_of_arguments n = nat_le n 64 && n % 4 == 0
-
-abbrev pub is_alignment : ℕ → Bool
-is_alignment n = list_any (nat_eq n) ALIGNMENTS
 
 -- the index of one of the arguments, which have so many bytes
 abbrev pub is_index : ℕ → ℕ → Bool

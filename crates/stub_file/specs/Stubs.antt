@@ -2,11 +2,11 @@
 use Rattle.std.specs.Prelude.{◌≡◌, ℕ, ⊤, Bool, true, List, [], ◌∷◌, Option, Some, None, IsUtf8}
 use Rattle.std.specs.Map.{lookup}
 use Rattle.std.specs.Option.{option_map_or}
+use Rattle.memory_map.specs.Alignment.{is_alignment}
 use Rattle.toml.specs.Data.{Members, no_members, member, same_key}
 use Rattle.toml.specs.Parse.{parse_document}
 use Rattle.stub_file.specs.Document.{number_at}
 use Rattle.stub_file.specs.Faults.{HasFault, IsFaultless, stubs_in}
-use Rattle.stub_file.specs.Rules.{is_alignment}
 use Rattle.stub_file.specs.Stated.{IsStub}
 use Rattle.stub_file.specs.declared.fault.StubFault.{StubFault}
 use Rattle.stub_file.specs.declared.fault.StubFault.TheVariants.{NotToml, Memory}

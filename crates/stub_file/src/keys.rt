@@ -129,9 +129,6 @@ pub static REPLIES: [Word; 5] = [
     Word::Enter,
 ];
 
-/// The alignments of a stack: the powers of two from 4 to 4,096.
-pub static ALIGNMENTS: [u32; 11] = [4, 8, 16, 32, 64, 128, 256, 512, 1024, 2048, 4096];
-
 impl Key {
     /// The key as it is written.
     pub fn name(self) -> &'static str

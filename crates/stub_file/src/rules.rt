@@ -1,11 +1,12 @@
 ghost use Rattle.std.specs.Prelude.{◌≡◌, is_some};
 ghost use Rattle.std.specs.List.{list_all};
-ghost use Rattle.stub_file.specs.Rules.{belongs, has_type, is_alignment, is_among, is_choice, is_in_range, is_present, is_reply, is_required, is_size_of_arguments, items_are_tables};
+ghost use Rattle.stub_file.specs.Rules.{belongs, has_type, is_among, is_choice, is_in_range, is_present, is_reply, is_required, is_size_of_arguments, items_are_tables};
 ghost use Rattle.toml.specs.Data.{as_table};
 ghost use Rattle.toml.specs.View.{table_view, view};
 
 use crate::document::{items_of, number_of, value_at};
-use crate::keys::{ALIGNMENTS, Kind, Need, Numbers, REPLIES, Rule};
+use crate::keys::{Kind, Need, Numbers, REPLIES, Rule};
+use memory_map::is_alignment;
 use toml::{Table, Value};
 
 impl Numbers {
@@ -20,13 +21,6 @@ fn is_size_of_arguments(number: u64) -> bool
     ensures { result ≡ is_size_of_arguments number }
 {
     number <= 64 && number % 4 == 0
-}
-
-/// Whether a stack may have this alignment.
-pub fn is_alignment(number: u64) -> bool
-    ensures { result ≡ is_alignment number }
-{
-    ALIGNMENTS.iter().any(|n| number == u64::from(*n))
 }
 
 /// Whether this is the word of a reply.
@@ -68,7 +62,7 @@ pub fn is_in_range(args: u64, kind: Kind, value: &Value) -> bool
     match kind {
         Kind::Number(numbers) => number_of(value).is_some_and(|n| numbers.has(n)),
         Kind::Bytes => number_of(value).is_some_and(is_size_of_arguments),
-        Kind::Alignment => number_of(value).is_some_and(is_alignment),
+        Kind::Alignment => number_of(value).is_some_and(|n| is_alignment(n)),
         Kind::Index => number_of(value).is_some_and(|n| n < args / 4),
         Kind::Reply => value.as_str().is_some_and(is_reply),
         Kind::Writes => items_of(value).len() <= 4,

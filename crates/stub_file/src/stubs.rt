@@ -1,6 +1,6 @@
 ghost use Rattle.std.specs.Prelude.{◌≡◌, IfSome, IsTrue, option_copied, true};
+ghost use Rattle.memory_map.specs.Alignment.{IsAlignment};
 ghost use Rattle.stub_file.specs.Entries.{are_own, named_of};
-ghost use Rattle.stub_file.specs.Rules.{is_alignment};
 ghost use Rattle.stub_file.specs.Stated.{has_own_arguments};
 ghost use Rattle.stub_file.specs.Stubs.{align_is_kept, no_stubs, stub_named};
 
@@ -19,6 +19,7 @@ pub struct Stubs {
 
 impl Model for Stubs {
     ghost use Rattle.std.specs.Prelude.{◌≡◌, true};
+    ghost use Rattle.memory_map.specs.Alignment.{IsAlignment};
     ghost use Rattle.stub_file.specs.Entries.{are_own, named_of};
     ghost use Rattle.stub_file.specs.Stubs.{StatedStubs, align_is_kept};
 
@@ -59,7 +60,7 @@ impl Stubs {
     /// The alignment of a stack, where one is stated; takes no memory.
     pub fn align(&self) -> Option<u32>
         ensures value { result ≡ self.now.align }
-        ensures kept { IfSome result (λ n. IsTrue (is_alignment n)) }
+        ensures kept { IfSome result IsAlignment }
     {
         self.stack
     }

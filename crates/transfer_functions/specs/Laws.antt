@@ -1,30 +1,41 @@
--- That the expansion of an instruction stands for what the instruction does.
-use Rattle.std.specs.Prelude.{ℕ, ◌≡◌, true, Ok, Contains}
+-- That the expansion of an instruction stands for what the instruction does, and keeps states well.
+use Rattle.std.specs.Prelude.{ℕ, ◌≡◌, true, false, Ok, List, [], All, Contains}
 use Rattle.address_regions.specs.Places.{Places}
 use Rattle.domain_laws.specs.Laws.{Values}
 use Rattle.memory_map.specs.declared.choice.Choice.{Choice}
-use Rattle.memory_map.specs.Image.{Image}
-use Rattle.memory_map.specs.State.{MachineState}
+use Rattle.memory_map.specs.Image.{Image, IsLoaded}
+use Rattle.memory_map.specs.Range.{Range, code_at}
+use Rattle.memory_map.specs.State.{MachineState, memory}
 use Rattle.x86_syntax.specs.declared.instr.Instr.{Instr}
 use Rattle.x86_semantics.specs.Does.{does}
-use Rattle.x86_semantics.specs.Meant.{meant}
-use Rattle.abstract_state.specs.declared.state.State.{State}
 use Rattle.abstract_state.specs.Describes.{Describes}
 use Rattle.abstract_state.specs.Expanding.{Expanded}
+use Rattle.abstract_state.specs.State.{IsWellState, Known}
 use Rattle.transfer_functions.specs.Post.{expand_instr}
 
+-- what may be executed may not be written
+abbrev pub IsFixed : List Range → Type 0
+IsFixed ranges = All (λ r. r.execute ≡ true → r.write ≡ false) ranges
+
 module _ {D : Type 0} (d : Values D) (image : Image) where
-  -- some next pair has the address of the state after a step from m, and describes it; memory is as it was
+  -- some next pair has the address of the state after a step from m, is well, and describes it by the same places; the executable bytes are as they were
   pub record IsFoundIn (x : Expanded D) (p : Places) (m next : MachineState) : Type 0 where
-    pub state : State D
+    pub state : Known D
     pub pair : Contains x.next (next.eip, state)
+    pub well : IsWellState d state
     pub describes : Describes d image state p next
-    pub stack : next.stack ≡ m.stack
-    pub ranges : next.ranges ≡ m.ranges
+    pub code : (a : ℕ) → code_at (memory next) a ≡ code_at (memory m) a
 
 module _ {D : Type 0} (d : Values D) where
-  -- whatever an instruction that is meant does to a machine state that is described, under every choice
+  -- whatever an instruction does to a machine state that is described, under every choice, where no cause leaves it open
   abbrev pub InstrIsSound : Type 0
   InstrIsSound =
-      (image : Image) (i : Instr) (n : ℕ) (choice : Choice) (s : State D) (p : Places) (m next : MachineState) → meant i ≡ true
-      → Describes d image s p m → does i n choice m ≡ Ok next → IsFoundIn d image (expand_instr d image.align i m.eip n s) p m next
+      (image : Image) (k : ℕ) (i : Instr) (n : ℕ) (choice : Choice) (s : Known D) (p : Places) (m next : MachineState) →
+      IsLoaded image → IsFixed image.segments → IsWellState d s → Describes d image s p m → does i n choice m ≡ Ok next →
+      (expand_instr d image k i m.eip n s).causes ≡ [] → IsFoundIn d image (expand_instr d image k i m.eip n s) p m next
+
+  -- each next pair of a well state is well
+  abbrev pub InstrKeepsWell : Type 0
+  InstrKeepsWell =
+      (image : Image) (k : ℕ) (i : Instr) (at n : ℕ) (s : Known D) (pair : ℕ × Known D) →
+      IsLoaded image → IsWellState d s → Contains (expand_instr d image k i at n s).next pair → IsWellState d pair.1

@@ -1,4 +1,12 @@
 pub mod Values
 pub mod Flags
+pub mod Arithmetic
+pub mod Moves
+pub mod Flow
+pub mod Shifts
+pub mod Products
+pub mod Bits
+pub mod Strings
+pub mod Following
 pub mod Post
 pub mod Laws

@@ -3,10 +3,20 @@
 // Its contract: `expand_instr` is exactly the expansion that is defined, and each expansion stands for all that the instruction does.
 #![tactic(auto)]
 
+mod after;
+mod arithmetic;
+mod bits;
 mod expand;
 mod flags;
+mod flow;
+mod moves;
 mod operands;
+mod products;
+mod shifts;
+mod site;
 mod sound;
+mod strings;
+mod values;
 
 pub use expand::expand_instr;
-pub use sound::instructions_are_sound;
+pub use sound::{instructions_are_sound, instructions_keep_well};

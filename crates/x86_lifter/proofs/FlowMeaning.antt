@@ -10,7 +10,7 @@ use Rattle.x86_syntax.specs.declared.instr.Operand.TheVariants.{Register, Number
 use Rattle.x86_semantics.specs.declared.operation.Looping.{Looping}
 use Rattle.x86_semantics.specs.declared.operation.Looping.TheVariants.{Counted, Equal, NotEqual}
 use Rattle.x86_semantics.specs.Registers.{ECX, register, with_register}
-use Rattle.x86_semantics.specs.Operands.{Ended, Next, at_address, after, branch_target, reading}
+use Rattle.x86_semantics.specs.Operands.{Ended, Next, at_address, next_address, branch_target, reading}
 use Rattle.x86_semantics.specs.Moves.{pushing, below}
 use Rattle.x86_semantics.specs.Flow.{jump, targeting, goto, call, return, loop, jump_if_no_count}
 use Rattle.statement_lang.specs.declared.stmt.Source.TheVariants as sources
@@ -22,12 +22,12 @@ use Rattle.x86_lifter.specs.Lists.{none, resolved, going, calling, pushing_of, r
 use Rattle.x86_lifter.proofs.Values.{run-one}
 
 pub jumped : (cc : Cond) (offset : ℤ) (n : ℕ) (c : Choice) (m : MachineState)
-    → run (Branch (Condition cc) (branch_target offset n m) (after n m) ∷ []) c m ≡ jump cc offset n m
+    → run (Branch (Condition cc) (branch_target m.eip n offset) (next_address m.eip n) ∷ []) c m ≡ jump cc offset n m
 unfolding run
 jumped cc offset n c m = refl
 
 pub jumped-if-no-count : (offset : ℤ) (n : ℕ) (c : Choice) (m : MachineState)
-    → run (Branch (Zero (sources.Register ECX)) (branch_target offset n m) (after n m) ∷ []) c m ≡ jump_if_no_count offset n m
+    → run (Branch (Zero (sources.Register ECX)) (branch_target m.eip n offset) (next_address m.eip n) ∷ []) c m ≡ jump_if_no_count offset n m
 unfolding run
 jumped-if-no-count offset n c m = refl
 
@@ -45,10 +45,10 @@ gone target n c m =
     ∙ reading-target m target n (λ a. Next (at_address a m))
 
 pub called : (target : Operand) (n : ℕ) (c : Choice) (m : MachineState)
-    → run (places (resolved m.eip n target) none ++ calling (resolved m.eip n target) (after n m)) c m ≡ call target n m
+    → run (places (resolved m.eip n target) none ++ calling (resolved m.eip n target) (next_address m.eip n)) c m ≡ call target n m
 called target n c m =
-    run-one (resolved m.eip n target) none (pushing_of (sources.Number (after n m)) (sources.Temp 2)) c m
-    ∙ reading-target m target n (λ a. pushing m (after n m) (λ p. Next (at_address a p)))
+    run-one (resolved m.eip n target) none (pushing_of (sources.Number (next_address m.eip n)) (sources.Temp 2)) c m
+    ∙ reading-target m target n (λ a. pushing m (next_address m.eip n) (λ p. Next (at_address a p)))
 
 pub returned : (extra : ℕ) (c : Choice) (m : MachineState) → run (returning extra) c m ≡ return extra m
 unfolding run
@@ -61,11 +61,11 @@ loop-cases true false there here m = refl
 loop-cases false zero there here m = refl
 
 pub looped : (kind : Looping) (offset : ℤ) (n : ℕ) (c : Choice) (m : MachineState)
-    → run (looping kind (branch_target offset n m) (after n m)) c m ≡ loop kind offset n m
+    → run (looping kind (branch_target m.eip n offset) (next_address m.eip n)) c m ≡ loop kind offset n m
 unfolding run
 looped Counted offset n c m =
-    loop-cases true (below (register ECX m) 1 == 0) (branch_target offset n m) (after n m) (with_register ECX (below (register ECX m) 1) m)
+    loop-cases true (below (register ECX m) 1 == 0) (branch_target m.eip n offset) (next_address m.eip n) (with_register ECX (below (register ECX m) 1) m)
 looped Equal offset n c m =
-    (let p = with_register ECX (below (register ECX m) 1) m in loop-cases p.flags.zero (below (register ECX m) 1 == 0) (branch_target offset n m) (after n m) p)
+    (let p = with_register ECX (below (register ECX m) 1) m in loop-cases p.flags.zero (below (register ECX m) 1 == 0) (branch_target m.eip n offset) (next_address m.eip n) p)
 looped NotEqual offset n c m =
-    (let p = with_register ECX (below (register ECX m) 1) m in loop-cases (not p.flags.zero) (below (register ECX m) 1 == 0) (branch_target offset n m) (after n m) p)
+    (let p = with_register ECX (below (register ECX m) 1) m in loop-cases (not p.flags.zero) (below (register ECX m) 1 == 0) (branch_target m.eip n offset) (next_address m.eip n) p)

@@ -7,7 +7,9 @@ use Rattle.bit_words.specs.declared.op.Op.{Op}
 use Rattle.bit_words.specs.declared.op.Op.TheVariants.{Add, Mul}
 use Rattle.bit_words.specs.Operators.{apply_op, one_if}
 use Rattle.memory_map.specs.declared.choice.Choice.{Choice}
-use Rattle.memory_map.specs.State.{MachineState, Registers}
+use Rattle.memory_map.specs.State.{MachineState}
+use Rattle.memory_map.specs.declared.registers.Regs.{Regs}
+use Rattle.memory_map.specs.Registers as regs
 use Rattle.x86_syntax.specs.declared.instr.Address.{Address}
 use Rattle.x86_syntax.specs.declared.instr.Cond.{Cond}
 use Rattle.x86_syntax.specs.declared.instr.Seg.{Seg}
@@ -15,7 +17,7 @@ use Rattle.x86_syntax.specs.declared.instr.Seg.TheVariants.{Plain, Fs, Gs}
 use Rattle.x86_syntax.specs.declared.instr.Operand.{Operand}
 use Rattle.x86_syntax.specs.declared.instr.Operand.TheVariants.{Register, Number, Memory, Offset}
 use Rattle.x86_semantics.specs.Condition.{is_met}
-use Rattle.x86_semantics.specs.Registers.{ESP, register, register_in, with_register, with_register_in, part}
+use Rattle.x86_semantics.specs.Registers.{ESP, register, with_register, part}
 use Rattle.x86_semantics.specs.Operands.{Next, at_address, address_of, offset_in_segment, segment_base, base_part, index_part}
 use Rattle.x86_semantics.specs.Moves.{move, convert, lea, exchange, set, move_if, push, pop, pop_into, popped, above, leave}
 use Rattle.statement_lang.specs.declared.stmt.Source.TheVariants as sources
@@ -80,8 +82,9 @@ unfolding run
 left next c m = refl
 
 -- a register when ESP has another value
-with-esp : (k v : ℕ) (g : Registers) (b : Bool) → (k == ESP) ≡ b → register_in k (with_register_in ESP v g) ≡ cond b v (register_in k g)
-with-esp k v g true is = (let P : ℕ → Type 0 = λ j. register_in j (with_register_in ESP v g) ≡ v in subst P (sym (eqb-true k ESP is)) refl)
+with-esp : (k v : ℕ) (g : Regs ℕ) (b : Bool) → (k == ESP) ≡ b → regs.register (regs.with_register g ESP v) k ≡ cond b v (regs.register g k)
+unfolding regs.register regs.with_register
+with-esp k v g true is = (let P : ℕ → Type 0 = λ j. regs.register (regs.with_register g ESP v) j ≡ v in subst P (sym (eqb-true k ESP is)) refl)
 with-esp k v g false is = rw is refl
 
 new-esp : (r e : ℕ) (m : MachineState) (t : Temps) (b : Bool) → (r % 8 == ESP) ≡ b → value_of m t (sources.Temp 3) ≡ e

@@ -24,10 +24,10 @@ use Rattle.x86_lifter.proofs.Places.{temps}
 use Rattle.x86_lifter.proofs.Values.{fetched-register, kept-register, loading-same, storing-same, inside}
 
 -- what stands behind an element and reads no temporary but the step
-abbrev GoesOn : List Stmt → Choice → ℕ → (MachineState → Ended) → Type 0
-GoesOn rest c step k = (n : MachineState) (t0 t2 t3 t4 : ℕ) → run_from rest 0 c n (temps t0 0 t2 t3 t4 step 0) ≡ k n
+abbrev RunsOn : List Stmt → Choice → ℕ → (MachineState → Ended) → Type 0
+RunsOn rest c step k = (n : MachineState) (t0 t2 t3 t4 : ℕ) → run_from rest 0 c n (temps t0 0 t2 t3 t4 step 0) ≡ k n
 
-element-done : (kind : StringKind) (w : Width) (seg : Seg) (step : ℕ) (rest : List Stmt) (c : Choice) (m : MachineState) (k : MachineState → Ended) → GoesOn rest c step k
+element-done : (kind : StringKind) (w : Width) (seg : Seg) (step : ℕ) (rest : List Stmt) (c : Choice) (m : MachineState) (k : MachineState → Ended) → RunsOn rest c step k
     → run_from (element_list kind w seg rest) 0 c m (temps 0 0 0 0 0 step 0) ≡ element kind w seg step c m k
 element-done kinds.Move w seg step rest c m k on =
     let a = source_address seg m in
@@ -49,7 +49,7 @@ element-done kinds.Scan w seg step rest c m k on =
     ∙ loading-same m w (register EDI m) _ _ (λ u. on (moved EDI step (compared w v u c m)) 0 v u (apply_op Sub w v u))
 
 -- the step first
-stepped : (kind : StringKind) (w : Width) (seg : Seg) (rest : List Stmt) (c : Choice) (m : MachineState) (k : MachineState → Ended) → GoesOn rest c (step_of w m.flags) k
+stepped : (kind : StringKind) (w : Width) (seg : Seg) (rest : List Stmt) (c : Choice) (m : MachineState) (k : MachineState → Ended) → RunsOn rest c (step_of w m.flags) k
     → run_from (stepping w (element_list kind w seg rest)) 0 c m zeros ≡ element kind w seg (step_of w m.flags) c m k
 stepped kind w seg rest c m k on =
     inside (λ step. run_from (element_list kind w seg rest) 0 c m (temps 0 0 0 0 0 step 0)) m.flags.direction (2 ^ 32 - bytes_of w) (bytes_of w)
@@ -63,10 +63,10 @@ over true false next here p = refl
 over false true next here p = refl
 over false false next here p = refl
 
-ended-once : (next : ℕ) (c : Choice) (step : ℕ) → GoesOn (Goto (sources.Number next) ∷ []) c step (λ n. Next (at_address next n))
+ended-once : (next : ℕ) (c : Choice) (step : ℕ) → RunsOn (Goto (sources.Number next) ∷ []) c step (λ n. Next (at_address next n))
 ended-once next c step n t0 t2 t3 t4 = refl
 
-ended-repetition : (again : Repeat) (here next : ℕ) (c : Choice) (step : ℕ) → GoesOn (ending_repetition again here next) c step (counted again next here)
+ended-repetition : (again : Repeat) (here next : ℕ) (c : Choice) (step : ℕ) → RunsOn (ending_repetition again here next) c step (counted again next here)
 ended-repetition Once here next c step n t0 t2 t3 t4 =
     over (below (register ECX n) 1 == 0) false next here (with_register ECX (below (register ECX n) 1) n)
 ended-repetition Rep here next c step n t0 t2 t3 t4 =

@@ -3,15 +3,13 @@ use Rattle.std.specs.Prelude.{ℕ, ◌+◌, ◌%◌, ◌^◌, List, [], ◌∷�
 use Rattle.x86_semantics.specs.declared.operation.Operation.{Operation}
 use Rattle.x86_semantics.specs.declared.operation.Operation.TheVariants as operations
 use Rattle.x86_semantics.specs.Registers.{ECX}
+use Rattle.x86_semantics.specs.Operands.{next_address, branch_target}
 use Rattle.statement_lang.specs.declared.stmt.Source.TheVariants.{Register, Number}
 use Rattle.statement_lang.specs.declared.stmt.Test.TheVariants.{Condition, Zero}
 use Rattle.statement_lang.specs.declared.stmt.Stmt.{Stmt}
 use Rattle.statement_lang.specs.declared.stmt.Stmt.TheVariants.{Stop, Goto, Branch}
 use Rattle.x86_lifter.specs.Pieces.{places}
-use Rattle.x86_lifter.specs.Lists.{none, combining, carrying, comparing, moving, converting, plain, leaing, exchanging, setting, moving_if, pushing_list, popping, popping_into, leaving, target_from, resolved, going, calling, returning, looping, changing, loading_status, storing_status, shifting, multiplying_long, multiplying, dividing, string_list}
-
-abbrev pub next_address : ℕ → ℕ → ℕ
-next_address at n = (at + n) % 2 ^ 32
+use Rattle.x86_lifter.specs.Lists.{none, combining, carrying, comparing, moving, converting, plain, leaing, exchanging, setting, moving_if, pushing_list, popping, popping_into, leaving, resolved, going, calling, returning, looping, changing, loading_status, storing_status, shifting, multiplying_long, multiplying, dividing, string_list}
 
 abbrev pub lifted : Operation → ℕ → ℕ → List Stmt
 lifted (operations.Combine op rule w to from) at n = places to from ++ combining op rule w to from (next_address at n)
@@ -25,10 +23,10 @@ lifted (operations.Shift op rule w to count) at n = places to count ++ shifting 
 lifted (operations.MultiplyLong high rule w from) at n = places from none ++ multiplying_long high rule w from (next_address at n)
 lifted (operations.Multiply w r left right) at n = places left right ++ multiplying w r left right (next_address at n)
 lifted (operations.Divide signed w by) at n = places by none ++ dividing signed w by (next_address at n)
-lifted (operations.Jump c offset) at n = Branch (Condition c) (target_from at n offset) (next_address at n) ∷ []
+lifted (operations.Jump c offset) at n = Branch (Condition c) (branch_target at n offset) (next_address at n) ∷ []
 lifted (operations.Goto target) at n = places (resolved at n target) none ++ going (resolved at n target)
-lifted (operations.Loop kind offset) at n = looping kind (target_from at n offset) (next_address at n)
-lifted (operations.JumpIfNoCount offset) at n = Branch (Zero (Register ECX)) (target_from at n offset) (next_address at n) ∷ []
+lifted (operations.Loop kind offset) at n = looping kind (branch_target at n offset) (next_address at n)
+lifted (operations.JumpIfNoCount offset) at n = Branch (Zero (Register ECX)) (branch_target at n offset) (next_address at n) ∷ []
 lifted (operations.Call target) at n = places (resolved at n target) none ++ calling (resolved at n target) (next_address at n)
 lifted (operations.Return extra) at n = returning extra
 lifted (operations.Push from) at n = places from none ++ pushing_list from (next_address at n)

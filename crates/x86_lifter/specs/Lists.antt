@@ -23,6 +23,7 @@ use Rattle.x86_semantics.specs.declared.operation.FlagChange.TheVariants as chan
 use Rattle.x86_semantics.specs.declared.operation.StringKind.{StringKind}
 use Rattle.x86_semantics.specs.declared.operation.StringKind.TheVariants as kinds
 use Rattle.x86_semantics.specs.Registers.{EAX, ECX, ESP, EBP, ESI, EDI, AH, upper_register}
+use Rattle.x86_semantics.specs.Operands.{branch_target}
 use Rattle.x86_semantics.specs.FlagRules.{free_of, carry_flag, overflow_flag, status_flags}
 use Rattle.statement_lang.specs.declared.stmt.Source.{Source}
 use Rattle.statement_lang.specs.declared.stmt.Source.TheVariants.{Register, Temp, Number, Base}
@@ -115,13 +116,9 @@ leaving next =
 
 -- ---- jumps, calls, loops
 
--- where a branch of n bytes at an address goes by its offset
-abbrev pub target_from : ℕ → ℕ → ℤ → ℕ
-target_from here n offset = (here + n + cast_unsigned w32 offset) % 2 ^ 32
-
 -- a branch's operand: an offset as the number of its target
 abbrev pub resolved : ℕ → ℕ → Operand → Operand
-resolved here n (operands.Offset o) = operands.Number B32 (target_from here n o)
+resolved here n (operands.Offset o) = operands.Number B32 (branch_target here n o)
 resolved here n target = target
 
 abbrev pub going : Operand → List Stmt

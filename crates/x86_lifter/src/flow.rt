@@ -1,38 +1,22 @@
 ghost use Rattle.std.specs.Prelude.{◌≡◌, ◌++◌, ◌∷◌, []};
 ghost use Rattle.x86_lifter.specs.Pieces.{places};
-ghost use Rattle.x86_lifter.specs.Lists.{counting, going, loop_test, looping, none, resolved, target_from};
-ghost use Rattle.x86_lifter.specs.Lifted.{next_address};
+ghost use Rattle.x86_lifter.specs.Lists.{counting, going, loop_test, looping, none, resolved};
 
 use crate::moves::none;
 use crate::pieces::{behind_places, copy, fetch, go_to, listed, put, skip_unless};
 use bit_words::{Flags, Op, Width};
 use statement_lang::{Source, Stmt, Stmts, Test};
-use x86_semantics::Looping;
+use x86_semantics::{Looping, branch_target};
 use x86_syntax::Operand;
 
 const ECX: u8 = 1;
-
-/// The address after an instruction.
-pub fn next_address(at: u32, len: u8) -> u32
-    ensures { result ≡ next_address at len }
-{
-    at.wrapping_add(u32::from(len))
-}
-
-/// Where a branch goes by its offset.
-pub fn target_from(at: u32, len: u8, offset: i32) -> u32
-    ensures { result ≡ target_from at len offset }
-{
-    let sum = u64::from(at) + u64::from(len) + u64::from(offset.cast_unsigned());
-    (sum % 0x1_0000_0000) as u32
-}
 
 /// A branch's operand: an offset as the number of its target.
 pub fn resolved(at: u32, len: u8, target: Operand) -> Operand
     ensures { result ≡ resolved at len target }
 {
     match target {
-        Operand::Offset(offset) => Operand::Number(Width::B32, target_from(at, len, offset)),
+        Operand::Offset(offset) => Operand::Number(Width::B32, branch_target(at, len, offset)),
         _ => target,
     }
 }

@@ -8,7 +8,7 @@ ghost use Rattle.x86_lifter.specs.Lifted.{lifted};
 
 use crate::arithmetic::{carry, combine, compare};
 use crate::flag_bits::{change_flag, load_status, store_status};
-use crate::flow::{branch, go, loop_to, next_address, resolved, target_from};
+use crate::flow::{branch, go, loop_to, resolved};
 use crate::moves::{convert, exchange, load_address, move_if, move_value, set};
 use crate::pieces::{go_to, listed};
 use crate::products::{divide, multiply, multiply_long};
@@ -16,7 +16,7 @@ use crate::shifts::shift;
 use crate::stack::{call, leave, pop, push, return_past};
 use crate::strings::string;
 use statement_lang::{Source, Stmt, Stmts, Test};
-use x86_semantics::{Operation, operation_of};
+use x86_semantics::{Operation, branch_target, next_address, operation_of};
 use x86_syntax::Instr;
 
 const ECX: u8 = 1;
@@ -87,14 +87,14 @@ fn lift_operation(operation: Operation, at: u32, len: u8) -> Stmts
         Operation::Divide { signed, w, by } => divide(signed, w, by, next),
         Operation::Jump { condition, offset } => branch(
             Test::Condition(condition),
-            target_from(at, len, offset),
+            branch_target(at, len, offset),
             next,
         ),
         Operation::Goto { target } => go(resolved(at, len, target)),
-        Operation::Loop { kind, offset } => loop_to(kind, target_from(at, len, offset), next),
+        Operation::Loop { kind, offset } => loop_to(kind, branch_target(at, len, offset), next),
         Operation::JumpIfNoCount { offset } => branch(
             Test::Zero(Source::Register(ECX)),
-            target_from(at, len, offset),
+            branch_target(at, len, offset),
             next,
         ),
         Operation::Call { target } => call(resolved(at, len, target), next),

@@ -19,6 +19,7 @@ pub fn add(out: &mut Stmts, more: &[Stmt])
 
 // ---- addresses
 
+/// The base register of an address as a source, 0 where there is none.
 pub fn base_source(base: Option<u8>) -> Source
     ensures { result ≡ base_source base }
 {
@@ -28,6 +29,7 @@ pub fn base_source(base: Option<u8>) -> Source
     }
 }
 
+/// The index register of an address as a source, 0 where there is none.
 pub fn index_source(index: Option<(u8, u8)>) -> Source
     ensures { result ≡ index_source index }
 {
@@ -113,6 +115,7 @@ pub fn listed(more: &[Stmt]) -> Stmts
 
 // ---- values; the address of an operand in memory is in the temporary k
 
+/// The statement that gives `to` the value of `from`.
 pub fn copy(to: Source, from: Source) -> Stmt
     ensures { result ≡ Stmt.Copy to from }
 {
@@ -225,6 +228,7 @@ pub fn free(rule: FlagRule) -> Stmt
     Stmt::FreeFlags { which: rule.free() }
 }
 
+/// The statement that puts EIP at an address.
 pub fn go_to(next: u32) -> Stmt
     ensures { result ≡ Stmt.Goto (Source.Number next) }
 {
@@ -233,6 +237,7 @@ pub fn go_to(next: u32) -> Stmt
     }
 }
 
+/// The statement that passes over the next `count` where the test does not hold.
 pub fn skip_unless(test: Test, count: u8) -> Stmt
     ensures { result ≡ Stmt.SkipUnless test count }
 {

@@ -1,12 +1,14 @@
 use crate::lift;
 use bit_words::{Flags, Width};
 use bitflags::Flags as _;
-use memory_map::{Choice, FaultKind, Fills};
-use statement_lang::{Block, Cells, Ran, Registers, run_stmts};
+use memory_map::{Choice, FaultKind, Items, Regs};
+use statement_lang::{Block, Cells, Ran, run_stmts};
 use std::alloc::Global;
 use std::process::Abort;
 use std::test::Fail;
 use x86_decoder::decode;
+use x86_semantics::{Operation, operation_of};
+use x86_syntax::Mnemonic;
 
 /// Single steps: the instruction's bytes at the address 08048000, what is set before it, and what has changed after it,
 /// or the fault. EIP goes to the next instruction unless it is told. All numbers are hexadecimal: a register or EIP, `f`
@@ -315,7 +317,7 @@ fn choice_of(alloc: Global, flags: u8) -> Choice {
         edx: 0,
         base: 0,
         fails: false,
-        fill: Fills::from_vec(Vec::new(alloc)),
+        fill: Items::from_vec(Vec::new(alloc)),
     }
 }
 
@@ -329,7 +331,7 @@ fn zeros(alloc: Global, count: usize) -> Result<Vec<u8>, Fail> {
 
 // The state before any line sets anything.
 fn start(alloc: Global) -> Result<Cells, Fail> {
-    let registers = Registers {
+    let registers = Regs {
         eax: 0,
         ecx: 0,
         edx: 0,
@@ -385,7 +387,8 @@ fn set(cells: &mut Cells, word: &str) -> Result<(), Fail> {
         cells.set_flags(Flags::from_bits_retain(value.to_le_bytes()[0]));
     } else if name != "c" {
         let at = u32::from_str_radix(name, 16)?;
-        let _stored = cells.store(Width::B32, at, value);
+        let stored = cells.store(Width::B32, at, value);
+        stored.then_some(()).ok_or("a place that may be written")?;
     }
     Ok(())
 }
@@ -480,4 +483,43 @@ fn each_step_does_what_the_manual_says(rt: HostRuntime) -> Result<(), Fail> {
         check_step(&rt, rt.alloc(), line)?;
     }
     Ok(())
+}
+
+fn is_undefined(operation: Operation) -> bool {
+    matches!(
+        operation,
+        Operation::Stop {
+            kind: FaultKind::Undefined
+        }
+    )
+}
+
+// What begins with these bytes is no instruction, or has an operation of its own.
+fn check_operation(rt: &impl Abort, bytes: &[u8]) {
+    if let Ok((i, _)) = decode(bytes) {
+        let unknown = is_undefined(operation_of(&i)) && !matches!(i.name, Mnemonic::Ud2);
+        assert!(rt; !unknown, "{bytes:?}");
+    }
+}
+
+// An opcode of the first map and one of the second, with each ModRM byte.
+fn check_opcode(rt: &impl Abort, prefix: u8, code: u8) {
+    for modrm in 0..=255u8 {
+        check_operation(rt, &[prefix, code, modrm, 0, 0, 0, 0, 0, 0, 0, 0, 0]);
+        check_operation(rt, &[prefix, 0x0F, code, modrm, 0, 0, 0, 0, 0, 0, 0, 0, 0]);
+    }
+}
+
+fn check_opcodes(rt: &impl Abort, prefix: u8) {
+    for code in 0..=255u8 {
+        check_opcode(rt, prefix, code);
+    }
+}
+
+// Each row of the opcode table is among these strings, with the prefix 66 and without it.
+#[test]
+fn each_spelled_instruction_has_an_operation(rt: HostRuntime) {
+    check_opcodes(&rt, 0x26);
+    check_opcodes(&rt, 0x66);
+    check_operation(&rt, &[0xF3, 0x0F, 0x1E, 0xFB]);
 }

@@ -1,93 +1,96 @@
--- Every instruction that is no fault has a next state.
-use Rattle.std.proofs.Common.{◌≡◌, ℕ, Bool, List, Option, Some, refl, sym, ap, subst, true, false, ◌&&◌, [], ◌∷◌}
-use Rattle.std.specs.Prelude.{Ok, MatchBool}
-use Rattle.std.proofs.lemmas.Bool.{ne_eqb}
+-- Every instruction that cannot fault has a next state.
+use Rattle.std.proofs.Common.{◌≡◌, ℕ, Bool, List, Option, Some, refl, sym, ap, subst, true, false, cond}
+use Rattle.std.specs.Prelude.{Ok, MatchBool, ◌||◌}
+use Rattle.std.proofs.lemmas.Bool.{false≢true, ne_eqb, or_parts}
 use Rattle.memory_map.specs.declared.choice.Choice.{Choice}
 use Rattle.memory_map.specs.Image.{EXIT_PLACE, name_at}
 use Rattle.memory_map.specs.State.{MachineState}
 use Rattle.x86_syntax.specs.declared.instr.Instr.{Instr}
-use Rattle.x86_syntax.specs.declared.instr.Mnemonic.{Mnemonic}
-use Rattle.x86_syntax.specs.declared.instr.Mnemonic.TheVariants.{Nop, Jmp, J, Mov, Add, Sub, Cmp, Inc, Dec}
 use Rattle.x86_syntax.specs.declared.instr.Operand.{Operand}
-use Rattle.x86_syntax.specs.declared.instr.Operand.TheVariants.{Register, Number, Offset}
-use Rattle.bit_words.specs.declared.width.Width.{Width}
-use Rattle.bit_words.specs.declared.width.Width.TheVariants.{B32}
-use Rattle.x86_semantics.specs.Meant.{meant_named, meant, are_register_and_long, is_register_alone, is_long_width, is_long_register, is_long}
-use Rattle.x86_semantics.specs.Operations.{operation_with, operation_of}
+use Rattle.x86_syntax.specs.declared.instr.Operand.TheVariants.{Register, Number, Memory, Offset}
+use Rattle.x86_semantics.specs.declared.operation.Operation.{Operation}
+use Rattle.x86_semantics.specs.declared.operation.Operation.TheVariants.{Combine, Carry, Compare, Move, Convert, Lea, Exchange, Shift, MultiplyLong, Multiply, Divide, Jump, Goto, Loop, JumpIfNoCount, Call, Return, Push, Pop, Leave, Set, MoveIf, Flag, LoadStatus, StoreStatus, Element, Nothing, Stop}
+use Rattle.x86_semantics.specs.Condition.{is_met}
 use Rattle.x86_semantics.specs.Does.{done, does, result_of}
-use Rattle.x86_semantics.proofs.Meaning.{listed_found}
+use Rattle.x86_semantics.specs.Flow.{targeting}
+use Rattle.x86_semantics.specs.Operands.{Ended, Next, at_address, reading, writing}
+use Rattle.x86_semantics.specs.Operations.{operation_of}
 use Rattle.x86_machine.specs.StepBy.{StepBy, AtName, AtInstr, stepped, exited, fetched, outcome_of}
-use Rattle.x86_machine.specs.Laws.{GoesOn, HasNextState}
+use Rattle.x86_machine.specs.Laws.{HasNextState, is_in_memory, may_fault}
 
--- how an instruction ends, where it goes on
-abbrev Ends : Mnemonic → Instr → List Operand → ℕ → Choice → MachineState → Type 0
-Ends name i ops n choice m = (next : MachineState) × (result_of (done (operation_with name i ops) n choice m) ≡ Ok next)
+-- how an operation ends, where it goes on
+abbrev GoesOn : Ended → Type 0
+GoesOn e = (next : MachineState) × (result_of e ≡ Ok next)
 
--- by the two operands, and by the one
-by_pair : (P : List Operand → Type 0) → ((a b : Operand) → (is_long_register a && is_long b) ≡ true → P (a ∷ b ∷ [])) → (ops : List Operand) → are_register_and_long ops ≡ true → P ops
-by_pair P f [] e = cc
-by_pair P f (a ∷ []) e = cc
-by_pair P f (a ∷ b ∷ []) e = f a b e
-by_pair P f (a ∷ b ∷ c ∷ others) e = cc
+reading_goes : (m : MachineState) (o : Operand) (k : ℕ → Ended) → is_in_memory o ≡ false → ((v : ℕ) → GoesOn (k v)) → GoesOn (reading m o k)
+reading_goes m (Register w r) k none each = each _
+reading_goes m (Number w n) k none each = each _
+reading_goes m (Memory w a) k none each = absurd (false≢true (sym none))
+reading_goes m (Offset o) k none each = each _
 
-by_one : (P : List Operand → Type 0) → ((a : Operand) → is_long_register a ≡ true → P (a ∷ [])) → (ops : List Operand) → is_register_alone ops ≡ true → P ops
-by_one P f [] e = cc
-by_one P f (a ∷ []) e = f a e
-by_one P f (a ∷ b ∷ others) e = cc
+writing_goes : (m : MachineState) (o : Operand) (v : ℕ) (k : MachineState → Ended) → is_in_memory o ≡ false → ((n : MachineState) → GoesOn (k n)) → GoesOn (writing m o v k)
+writing_goes m (Register w r) v k none each = each _
+writing_goes m (Number w n) v k none each = each _
+writing_goes m (Memory w a) v k none each = absurd (false≢true (sym none))
+writing_goes m (Offset o) v k none each = each _
 
-mov_goes : (i : Instr) (n : ℕ) (choice : Choice) (m : MachineState) (a b : Operand) → (is_long_register a && is_long b) ≡ true → Ends Mov i (a ∷ b ∷ []) n choice m
-mov_goes i n choice m (Register B32 q) (Register B32 r) e = (_, refl)
-mov_goes i n choice m (Register B32 q) (Number B32 k) e = (_, refl)
-mov_goes i n choice m _ _ e = cc
+targeting_goes : (m : MachineState) (o : Operand) (n : ℕ) (k : ℕ → Ended) → is_in_memory o ≡ false → ((v : ℕ) → GoesOn (k v)) → GoesOn (targeting m o n k)
+targeting_goes m (Register w r) n k none each = each _
+targeting_goes m (Number w x) n k none each = each _
+targeting_goes m (Memory w a) n k none each = absurd (false≢true (sym none))
+targeting_goes m (Offset o) n k none each = each _
 
-add_goes : (i : Instr) (n : ℕ) (choice : Choice) (m : MachineState) (a b : Operand) → (is_long_register a && is_long b) ≡ true → Ends Add i (a ∷ b ∷ []) n choice m
-add_goes i n choice m (Register B32 q) (Register B32 r) e = (_, refl)
-add_goes i n choice m (Register B32 q) (Number B32 k) e = (_, refl)
-add_goes i n choice m _ _ e = cc
+either_goes : (b : Bool) (e f : Ended) → GoesOn e → GoesOn f → GoesOn (cond b e f)
+either_goes true e f h g = h
+either_goes false e f h g = g
 
-sub_goes : (i : Instr) (n : ℕ) (choice : Choice) (m : MachineState) (a b : Operand) → (is_long_register a && is_long b) ≡ true → Ends Sub i (a ∷ b ∷ []) n choice m
-sub_goes i n choice m (Register B32 q) (Register B32 r) e = (_, refl)
-sub_goes i n choice m (Register B32 q) (Number B32 k) e = (_, refl)
-sub_goes i n choice m _ _ e = cc
-
-cmp_goes : (i : Instr) (n : ℕ) (choice : Choice) (m : MachineState) (a b : Operand) → (is_long_register a && is_long b) ≡ true → Ends Cmp i (a ∷ b ∷ []) n choice m
-cmp_goes i n choice m (Register B32 q) (Register B32 r) e = (_, refl)
-cmp_goes i n choice m (Register B32 q) (Number B32 k) e = (_, refl)
-cmp_goes i n choice m _ _ e = cc
-
-inc_goes : (i : Instr) (n : ℕ) (choice : Choice) (m : MachineState) (a : Operand) → is_long_register a ≡ true → Ends Inc i (a ∷ []) n choice m
-inc_goes i n choice m (Register B32 q) e = (_, refl)
-inc_goes i n choice m _ e = cc
-
-dec_goes : (i : Instr) (n : ℕ) (choice : Choice) (m : MachineState) (a : Operand) → is_long_register a ≡ true → Ends Dec i (a ∷ []) n choice m
-dec_goes i n choice m (Register B32 q) e = (_, refl)
-dec_goes i n choice m _ e = cc
-
-second : (a b : Bool) → (a && b) ≡ true → b ≡ true
-second true b e = e
-second false b e = cc
-
--- a meaning that is no fault has a next state
-goes_on : (name : Mnemonic) (i : Instr) (w : Width) (ops : List Operand) (n : ℕ) (choice : Choice) (m : MachineState) → meant_named name w ops ≡ true → GoesOn name
-    → Ends name i ops n choice m
-goes_on Nop i w [] n choice m means goes = (_, refl)
-goes_on Jmp i w (Offset o ∷ []) n choice m means goes = (_, refl)
-goes_on (J c) i w (Offset o ∷ []) n choice m means goes = (_, refl)
-goes_on Nop i w _ n choice m means goes = cc
-goes_on Jmp i w _ n choice m means goes = cc
-goes_on (J c) i w _ n choice m means goes = cc
-goes_on Mov i w ops n choice m means goes = by_pair (λ l. Ends Mov i l n choice m) (mov_goes i n choice m) ops means
-goes_on Add i w ops n choice m means goes = by_pair (λ l. Ends Add i l n choice m) (add_goes i n choice m) ops (second (is_long_width w) _ means)
-goes_on Sub i w ops n choice m means goes = by_pair (λ l. Ends Sub i l n choice m) (sub_goes i n choice m) ops (second (is_long_width w) _ means)
-goes_on Cmp i w ops n choice m means goes = by_pair (λ l. Ends Cmp i l n choice m) (cmp_goes i n choice m) ops (second (is_long_width w) _ means)
-goes_on Inc i w ops n choice m means goes = by_one (λ l. Ends Inc i l n choice m) (inc_goes i n choice m) ops (second (is_long_width w) _ means)
-goes_on Dec i w ops n choice m means goes = by_one (λ l. Ends Dec i l n choice m) (dec_goes i n choice m) ops (second (is_long_width w) _ means)
-goes_on _ i w ops n choice m means goes = absurd goes
+-- an operation that cannot fault goes on
+has_next : (operation : Operation) (n : ℕ) (choice : Choice) (m : MachineState) → may_fault operation ≡ false → GoesOn (done operation n choice m)
+has_next (Combine op rule w to from) n choice m none =
+    let parts = or_parts (is_in_memory to) (is_in_memory from) none in
+    reading_goes m to _ parts.0 (λ a. reading_goes m from _ parts.1 (λ b. writing_goes m to _ _ parts.0 (λ p. (_, refl))))
+has_next (Carry op rule w to from) n choice m none =
+    let parts = or_parts (is_in_memory to) (is_in_memory from) none in
+    reading_goes m to _ parts.0 (λ a. reading_goes m from _ parts.1 (λ b. writing_goes m to _ _ parts.0 (λ p. (_, refl))))
+has_next (Compare op rule w left right) n choice m none =
+    let parts = or_parts (is_in_memory left) (is_in_memory right) none in reading_goes m left _ parts.0 (λ a. reading_goes m right _ parts.1 (λ b. (_, refl)))
+has_next (Move to from) n choice m none =
+    let parts = or_parts (is_in_memory to) (is_in_memory from) none in reading_goes m from _ parts.1 (λ v. writing_goes m to _ _ parts.0 (λ p. (_, refl)))
+has_next (Convert op w to from by) n choice m none =
+    let parts = or_parts (is_in_memory to) (is_in_memory from) none in reading_goes m from _ parts.1 (λ v. writing_goes m to _ _ parts.0 (λ p. (_, refl)))
+has_next (Lea to address) n choice m none = writing_goes m to _ _ none (λ p. (_, refl))
+has_next (Exchange place w r) n choice m none = reading_goes m place _ none (λ a. writing_goes m place _ _ none (λ p. (_, refl)))
+has_next (Shift op rule w to count) n choice m none =
+    let parts = or_parts (is_in_memory to) (is_in_memory count) none in
+    reading_goes m to _ parts.0 (λ a. reading_goes m count _ parts.1 (λ v. writing_goes m to _ _ parts.0 (λ p. (_, refl))))
+has_next (MultiplyLong high rule w from) n choice m none = reading_goes m from _ none (λ b. (_, refl))
+has_next (Multiply w r left right) n choice m none =
+    let parts = or_parts (is_in_memory left) (is_in_memory right) none in reading_goes m left _ parts.0 (λ a. reading_goes m right _ parts.1 (λ b. (_, refl)))
+has_next (Jump c offset) n choice m none = (_, refl)
+has_next (Goto target) n choice m none = targeting_goes m target n _ none (λ a. (_, refl))
+has_next (Loop kind offset) n choice m none = (_, refl)
+has_next (JumpIfNoCount offset) n choice m none = (_, refl)
+has_next (Set c to) n choice m none = writing_goes m to _ _ none (λ p. (_, refl))
+has_next (MoveIf c to from) n choice m none =
+    let parts = or_parts (is_in_memory to) (is_in_memory from) none in
+    reading_goes m from _ parts.1 (λ v. either_goes (is_met c m.flags) _ _ (writing_goes m to v _ parts.0 (λ p. (_, refl))) (_, refl))
+has_next (Flag change) n choice m none = (_, refl)
+has_next LoadStatus n choice m none = (_, refl)
+has_next StoreStatus n choice m none = (_, refl)
+has_next Nothing n choice m none = (_, refl)
+has_next (Divide signed w by) n choice m none = absurd (false≢true (sym none))
+has_next (Call target) n choice m none = absurd (false≢true (sym none))
+has_next (Return extra) n choice m none = absurd (false≢true (sym none))
+has_next (Push from) n choice m none = absurd (false≢true (sym none))
+has_next (Pop to) n choice m none = absurd (false≢true (sym none))
+has_next Leave n choice m none = absurd (false≢true (sym none))
+has_next (Element kind w seg repeat) n choice m none = absurd (false≢true (sym none))
+has_next (Stop kind) n choice m none = absurd (false≢true (sym none))
 
 pub has_next_state : HasNextState
-unfolding StepBy does operation_of meant
-has_next_state image choice m i n runs unnamed found goes =
-    let d = goes_on i.name i i.w i.ops.items n choice m (listed_found (fetched m) i n found).means goes in
+unfolding StepBy does
+has_next_state image choice m i n runs unnamed found none =
+    let d = has_next (operation_of i) n choice m none in
     let at : AtInstr (Some (i, n)) choice m (fetched m) (stepped d.0) = ap outcome_of (sym d.1) in
     let Instr_at : Option (Instr × ℕ) → Type 0 = λ o. AtInstr o choice m (fetched m) (stepped d.0) in
     let Name_at : Option (List ℕ) → Type 0 = λ o. AtName o choice m (stepped d.0) in

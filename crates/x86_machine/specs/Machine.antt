@@ -4,7 +4,7 @@ use Rattle.memory_map.specs.declared.choice.Choice.{Choice}
 use Rattle.memory_map.specs.Image.{Image, name_at}
 use Rattle.memory_map.specs.State.{MachineState}
 use Rattle.x86_syntax.specs.declared.instr.Instr.{Instr}
-use Rattle.x86_semantics.specs.Meant.{listed}
+use Rattle.x86_syntax.specs.Decodes.{decoded}
 use Rattle.flow_log.specs.declared.edge.Edge.{Edge}
 use Rattle.flow_log.specs.declared.edge.Label.{Label}
 use Rattle.flow_log.specs.declared.edge.Label.TheVariants.{Code, Import}
@@ -18,7 +18,7 @@ instr_bytes None bytes = []
 
 abbrev pub label_by : Option (List ℕ) → List ℕ → Label
 label_by (Some name) bytes = Import name
-label_by None bytes = Code (record { items = instr_bytes (listed bytes) bytes })
+label_by None bytes = Code (record { items = instr_bytes (decoded bytes) bytes })
 
 -- the bytes of the instruction at EIP as the machine fetches them, or the import's name
 unfoldable pub label_at : Image → MachineState → Label

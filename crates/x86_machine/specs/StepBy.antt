@@ -4,11 +4,11 @@ use Rattle.memory_map.specs.declared.choice.Choice.{Choice}
 use Rattle.memory_map.specs.declared.fault.FaultKind.{FaultKind}
 use Rattle.memory_map.specs.declared.fault.FaultKind.TheVariants.{Fetch}
 use Rattle.memory_map.specs.declared.fault.BadKind.{BadKind}
-use Rattle.memory_map.specs.Range.{code_at, run_of}
+use Rattle.memory_map.specs.Range.{code_run}
 use Rattle.memory_map.specs.Image.{Image, EXIT_PLACE, name_at}
 use Rattle.memory_map.specs.State.{MachineState, memory}
 use Rattle.x86_syntax.specs.declared.instr.Instr.{Instr}
-use Rattle.x86_semantics.specs.Meant.{listed}
+use Rattle.x86_syntax.specs.Decodes.{decoded}
 use Rattle.x86_decoder.specs.Refusals.{GoesOn}
 use Rattle.x86_semantics.specs.Does.{does}
 
@@ -24,13 +24,9 @@ pub data Outcome : Type 0 where
   -- the choice names what the step does not leave open
   bad_choice : BadKind → Outcome
 
--- the longest instruction (manual, volume 2, section 2.3.11)
-abbrev pub LONGEST : ℕ
-LONGEST = 15
-
--- the executable bytes at EIP, one after another, as many as an instruction may have
+-- the executable bytes at EIP
 unfoldable pub fetched : MachineState → List ℕ
-fetched m = run_of (code_at (memory m)) LONGEST m.eip
+fetched m = code_run (memory m) m.eip
 
 abbrev pub outcome_of : Result MachineState FaultKind → Outcome
 outcome_of (Ok next) = stepped next
@@ -47,7 +43,7 @@ AtInstr None choice m bytes outcome = NoInstr bytes outcome
 -- at the place of an import; no stub says yet what one does
 abbrev pub AtName : Option (List ℕ) → Choice → MachineState → Outcome → Type 0
 AtName (Some name) choice m outcome = outcome ≡ no_stub
-AtName None choice m outcome = AtInstr (listed (fetched m)) choice m (fetched m) outcome
+AtName None choice m outcome = AtInstr (decoded (fetched m)) choice m (fetched m) outcome
 
 -- the outcome of a step from m under a choice
 unfoldable pub StepBy : Image → Choice → MachineState → Outcome → Type 0

@@ -1,6 +1,6 @@
 ghost use Rattle.x86_machine.specs.Laws.{HasNextState};
 
-/// A law: at every decoded instruction that is no fault the machine has a next state, under every choice.
+/// A law: at every instruction that touches no memory, does not divide and does not stop the machine, there is a next state under every choice.
 pub fn instructions_have_next_states()
     ensures { HasNextState }
 {}

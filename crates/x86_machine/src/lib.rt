@@ -4,5 +4,7 @@
 #![tactic(auto)]
 
 mod laws;
+mod start_file;
 
 pub use laws::instructions_have_next_states;
+pub use start_file::StartFile;

@@ -5,7 +5,7 @@ use Rattle.std.specs.Int.{bit_at}
 use Rattle.bit_words.specs.declared.width.Width.{Width}
 use Rattle.bit_words.specs.declared.flags.Flags.{Flags as FlagSet}
 use Rattle.bit_words.specs.Width.{bits_of, cut, signed_of, is_signed}
-use Rattle.bit_words.specs.Flags.{FlagBits, flags_by, sum_flags, difference_flags, logic_flags, has_sign, carry_of, parity_of, adjust_of, zero_of, sign_of, overflow_of}
+use Rattle.bit_words.specs.Flags.{FlagBits, has_even_parity, sum_flags, difference_flags, logic_flags, has_sign, carry_of, parity_of, adjust_of, zero_of, sign_of, overflow_of}
 use Rattle.memory_map.specs.State.{Flags}
 use Rattle.memory_map.specs.declared.choice.Choice.{Choice}
 use Rattle.x86_semantics.specs.declared.flag_rule.FlagRule.{FlagRule}
@@ -13,14 +13,30 @@ use Rattle.x86_semantics.specs.declared.flag_rule.FlagRule.TheVariants.{Sum, Sum
 
 -- the six status flags as computed, DF as it was
 abbrev pub with_status : FlagBits → Flags → Flags
-with_status s f = record { carry = s.carry; parity = s.parity; adjust = s.adjust; zero = s.zero; sign = s.sign; overflow = s.overflow; direction = f.direction }
+with_status s f = record {
+  carry = s.carry;
+  parity = s.parity;
+  adjust = s.adjust;
+  zero = s.zero;
+  sign = s.sign;
+  overflow = s.overflow;
+  direction = f.direction;
+}
 
 abbrev pub is_set : ℕ → ℕ → Bool
 is_set n k = bit_at n k == 1
 
 -- SF, ZF and PF of a result, AF clear
 abbrev pub of_result : Width → ℕ → Bool → Bool → Flags → Flags
-of_result w r carry overflow f = with_status (flags_by w (cut w r) carry false overflow) f
+of_result w r carry overflow f = record {
+  carry = carry;
+  parity = has_even_parity (cut w r);
+  adjust = false;
+  zero = cut w r == 0;
+  sign = has_sign w (cut w r);
+  overflow = overflow;
+  direction = f.direction;
+}
 
 -- SHL: CF is the last bit out at the top, OF tells at a count of 1 whether the top bit changed
 abbrev pub shift_left_flags : Width → ℕ → ℕ → ℕ → Flags → Flags
@@ -46,6 +62,18 @@ unless_zero c changed f = if c == 0 then f else changed
 abbrev pub both_by : Bool → Flags → Flags
 both_by t f = record f { carry = t; overflow = t }
 
+-- SAHF: the flags are the bits of the byte in AH
+abbrev pub by_status : ℕ → Flags → Flags
+by_status n f = record {
+  carry = is_set n 0;
+  parity = is_set n 2;
+  adjust = is_set n 4;
+  zero = is_set n 6;
+  sign = is_set n 7;
+  overflow = f.overflow;
+  direction = f.direction;
+}
+
 -- the flags of a rule, for operands a and b, a result r and the flags before; what is free of them, `free_of` tells
 unfoldable pub ruled : FlagRule → Width → ℕ → ℕ → ℕ → Flags → Flags
 ruled Sum w a b r f = with_status (sum_flags w a b false) f
@@ -63,7 +91,7 @@ ruled RotateLeft w a b r f = unless_zero (b % 32) (rotate_left_flags w r f) f
 ruled RotateRight w a b r f = unless_zero (b % 32) (rotate_right_flags w r f) f
 ruled Product w a b r f = both_by (nat_le (2 ^ bits_of w) (cut w a * cut w b)) f
 ruled SignedProduct w a b r f = both_by (not (is_signed w (signed_of w a *ℤ signed_of w b))) f
-ruled Status w a b r f = record { carry = is_set a 0; parity = is_set a 2; adjust = is_set a 4; zero = is_set a 6; sign = is_set a 7; overflow = f.overflow; direction = f.direction }
+ruled Status w a b r f = by_status a f
 
 -- ---- free flags
 

@@ -1,5 +1,4 @@
 pub mod Condition
-pub mod Meant
 pub mod Registers
 pub mod Memory
 pub mod FlagRules
@@ -11,5 +10,6 @@ pub mod Bits
 pub mod Shifts
 pub mod Products
 pub mod Strings
+pub mod Widths
 pub mod Operations
 pub mod Does

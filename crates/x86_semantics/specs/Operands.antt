@@ -28,12 +28,12 @@ abbrev pub with_flags : Flags → MachineState → MachineState
 with_flags f m = record m { flags = f }
 
 -- the address after an instruction of n bytes
-abbrev pub after : ℕ → MachineState → ℕ
-after n m = (m.eip + n) % 2 ^ 32
+abbrev pub next_address : ℕ → ℕ → ℕ
+next_address at n = (at + n) % 2 ^ 32
 
 -- a branch's offset counts from the address after it
-abbrev pub branch_target : ℤ → ℕ → MachineState → ℕ
-branch_target offset n m = (m.eip + n + cast_unsigned w32 offset) % 2 ^ 32
+abbrev pub branch_target : ℕ → ℕ → ℤ → ℕ
+branch_target at n offset = (at + n + cast_unsigned w32 offset) % 2 ^ 32
 
 -- ---- addresses
 

@@ -1,5 +1,5 @@
 -- Which operation an instruction is: the table of the mnemonics, by how many operands they have.
-use Rattle.std.specs.Prelude.{ℕ, true, false, List, [], ◌∷◌}
+use Rattle.std.specs.Prelude.{ℕ, true, false, if◌then◌else◌, List, [], ◌∷◌}
 use Rattle.bit_words.specs.declared.width.Width.{Width}
 use Rattle.bit_words.specs.declared.width.Width.TheVariants.{B8, B16, B32}
 use Rattle.bit_words.specs.Width.{cut}
@@ -22,6 +22,7 @@ use Rattle.x86_semantics.specs.declared.operation.FlagChange.TheVariants.{FlipCa
 use Rattle.x86_semantics.specs.declared.operation.Operation.{Operation}
 use Rattle.x86_semantics.specs.declared.operation.Operation.TheVariants as does
 use Rattle.x86_semantics.specs.Registers.{EAX, EDX}
+use Rattle.x86_semantics.specs.Widths.{has_own_widths}
 
 -- what no spelling names
 abbrev pub unlisted : Operation
@@ -165,5 +166,9 @@ operation_with name i (a ∷ b ∷ []) = of_two name i.w a b
 operation_with name i (a ∷ b ∷ c ∷ []) = of_three name i.w a b c
 operation_with name i _ = unlisted
 
+-- what no spelling names is the fault Undefined: an operation whose operands have other widths than its own is none that a spelling names
+abbrev pub if_spelled : Operation → Operation
+if_spelled op = if has_own_widths op then op else unlisted
+
 unfoldable pub operation_of : Instr → Operation
-operation_of i = operation_with i.name i i.ops.items
+operation_of i = if_spelled (operation_with i.name i i.ops.items)

@@ -1,11 +1,12 @@
 -- The general registers by their numbers, and their parts: AL to BH and AX to DI (manual, volume 1, section 3.4.1).
-use Rattle.std.specs.Prelude.{ℕ, ◌%◌, nat_lt, ◌==◌, if◌then◌else◌}
+use Rattle.std.specs.Prelude.{ℕ, ◌%◌, nat_lt, if◌then◌else◌}
 use Rattle.bit_words.specs.declared.width.Width.{Width}
 use Rattle.bit_words.specs.declared.width.Width.TheVariants.{B8, B16, B32}
 use Rattle.bit_words.specs.declared.op.Op.{Op}
 use Rattle.bit_words.specs.declared.op.Op.TheVariants.{Low8, High8, Low16, PutLow8, PutHigh8, PutLow16}
 use Rattle.bit_words.specs.Operators.{apply_op}
-use Rattle.memory_map.specs.State.{MachineState, Registers}
+use Rattle.memory_map.specs.Registers as regs
+use Rattle.memory_map.specs.State.{MachineState}
 
 abbrev pub EAX : ℕ
 EAX = 0
@@ -32,36 +33,13 @@ EDI = 7
 abbrev pub AH : ℕ
 AH = 4
 
-abbrev pub register_in : ℕ → Registers → ℕ
-register_in r g =
-    if r == 0 then g.eax
-    else if r == 1 then g.ecx
-    else if r == 2 then g.edx
-    else if r == 3 then g.ebx
-    else if r == 4 then g.esp
-    else if r == 5 then g.ebp
-    else if r == 6 then g.esi
-    else g.edi
-
-abbrev pub with_register_in : ℕ → ℕ → Registers → Registers
-with_register_in r v g = record {
-  eax = if r == 0 then v else g.eax;
-  ecx = if r == 1 then v else g.ecx;
-  edx = if r == 2 then v else g.edx;
-  ebx = if r == 3 then v else g.ebx;
-  esp = if r == 4 then v else g.esp;
-  ebp = if r == 5 then v else g.ebp;
-  esi = if r == 6 then v else g.esi;
-  edi = if r == 7 then v else g.edi;
-}
-
 -- a register by its number modulo 8: EAX ECX EDX EBX ESP EBP ESI EDI
 unfoldable pub register : ℕ → MachineState → ℕ
-register r m = register_in (r % 8) m.registers
+register r m = regs.register m.registers (r % 8)
 
 -- the state with another value in a register
 unfoldable pub with_register : ℕ → ℕ → MachineState → MachineState
-with_register r v m = record m { registers = with_register_in (r % 8) v m.registers }
+with_register r v m = record m { registers = regs.with_register m.registers (r % 8) v }
 
 -- AL CL DL BL are the low bytes of the first four registers, AH CH DH BH the bytes above them
 abbrev pub byte_part : ℕ → Op

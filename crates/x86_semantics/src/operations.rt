@@ -1,7 +1,7 @@
 ghost use Rattle.std.specs.Prelude.{◌≡◌};
-ghost use Rattle.x86_semantics.specs.Operations.{count_jump_of, converted, element, exchange_of, jump_of, lea_of, loop_of, of_none, of_one, of_three, of_two, operation_of, product_of, return_of, sign_of, unlisted, with_number};
+ghost use Rattle.x86_semantics.specs.Operations.{count_jump_of, converted, element, exchange_of, jump_of, lea_of, loop_of, of_none, of_one, of_three, of_two, if_spelled, operation_of, operation_with, product_of, return_of, sign_of, unlisted, with_number};
 
-use crate::{FlagChange, FlagRule, Looping, Operation, StringKind};
+use crate::{FlagChange, FlagRule, Looping, Operation, StringKind, has_own_widths};
 use bit_words::{Op, Width};
 use memory_map::FaultKind;
 use x86_syntax::{Cond, Instr, Mnemonic, Operand};
@@ -10,10 +10,27 @@ const EAX: u8 = 0;
 
 const EDX: u8 = 2;
 
-/// The operation of an instruction. What no spelling names may be the fault Undefined.
+/// The operation of an instruction. What no spelling names is the fault Undefined, also where operands have other widths than the
+/// operation's own.
 #[tactic(auto, unfolding(crate::specs::Operations::operation_of))]
 pub fn operation_of(i: &Instr) -> Operation
     ensures { result ≡ operation_of i.now }
+{
+    if_spelled(by_operands(i))
+}
+
+fn if_spelled(operation: Operation) -> Operation
+    ensures { result ≡ if_spelled operation }
+{
+    if has_own_widths(operation) {
+        operation
+    } else {
+        unlisted()
+    }
+}
+
+fn by_operands(i: &Instr) -> Operation
+    ensures { result ≡ operation_with i.now.name i.now i.now.ops.items }
 {
     match i.ops.as_slice() {
         [] => of_none(i),

@@ -5,6 +5,7 @@ use Rattle.std.specs.Option.{option_map, option_and_then}
 use Rattle.std.specs.Int.{cast_signed, cast_unsigned, w8, w32}
 use Rattle.bit_words.specs.declared.width.Width.{Width}
 use Rattle.bit_words.specs.declared.width.Width.TheVariants.{B8, B16, B32}
+use Rattle.bit_words.specs.Width.{bits_of}
 use Rattle.x86_syntax.specs.declared.instr.Place.{Place}
 use Rattle.x86_syntax.specs.declared.instr.Place.TheVariants as places
 use Rattle.x86_syntax.specs.declared.instr.Mnemonic.{Mnemonic}
@@ -69,11 +70,6 @@ with_prefix p b =
     else segmented p b
 
 -- Widths and segments
-
-abbrev pub bits_of : Width → ℕ
-bits_of B8 = 8
-bits_of B16 = 16
-bits_of B32 = 32
 
 -- 16 bits where the prefix 66 stands, and else 32
 abbrev pub word_width : Prefixes → Width

@@ -1,8 +1,9 @@
 -- The text of an instruction.
-use Rattle.std.specs.Prelude.{ℕ, suc, zero, ◌+◌, ◌/◌, ◌%◌, ◌^◌, ◌==◌, ◌&&◌, ◌||◌, Bool, true, false, nat_lt, if◌then◌else◌, is_some, List, [], ◌∷◌, ◌++◌, Option, Some, None, slice_index_or, codes}
+use Rattle.std.specs.Prelude.{ℕ, ◌+◌, ◌%◌, ◌^◌, ◌==◌, ◌&&◌, ◌||◌, Bool, true, false, if◌then◌else◌, is_some, List, [], ◌∷◌, ◌++◌, Option, Some, None, slice_index_or, codes}
 use Rattle.std.specs.Int.{cast_unsigned, w32}
 use Rattle.bit_words.specs.declared.width.Width.{Width}
 use Rattle.bit_words.specs.declared.width.Width.TheVariants.{B8, B16, B32}
+use Rattle.text_fields.specs.Hex.{hex_digits, hex8}
 use Rattle.x86_syntax.specs.declared.instr.Address.{Address}
 use Rattle.x86_syntax.specs.declared.instr.Cond.{Cond}
 use Rattle.x86_syntax.specs.declared.instr.Seg.{Seg}
@@ -16,18 +17,6 @@ use Rattle.x86_syntax.specs.declared.instr.Operand.TheVariants.{Register, Number
 use Rattle.x86_syntax.specs.declared.instr.Instr.{Instr}
 
 -- Numbers
-
--- a hexadecimal digit, in upper case
-abbrev pub hex_digit : ℕ → ℕ
-hex_digit d = if nat_lt d 10 then 48 + d else 55 + d
-
--- so many hexadecimal digits, the lowest of n
-unfoldable pub hex_text : ℕ → ℕ → List ℕ
-hex_text zero n = []
-hex_text (suc more) n = hex_text more (n / 16) ++ hex_digit (n % 16) ∷ []
-
-abbrev pub hex8_text : ℕ → List ℕ
-hex8_text n = hex_text 8 n
 
 -- two, four or eight digits, by the width
 abbrev pub digits_of : Width → ℕ
@@ -189,11 +178,11 @@ base_text (Some r) = register_text B32 r
 -- an index with its scale
 abbrev pub index_text : Bool → Option (ℕ × ℕ) → List ℕ
 index_text behind None = []
-index_text behind (Some part) = plus behind ++ register_text B32 part.0 ++ codes "*" ++ hex_text 1 part.1
+index_text behind (Some part) = plus behind ++ register_text B32 part.0 ++ codes "*" ++ hex_digits 1 part.1
 
 -- the displacement, left out where it is 0 beside another part
 abbrev pub displacement_text : Bool → ℕ → List ℕ
-displacement_text behind disp = if (disp == 0) && behind then [] else plus behind ++ hex8_text disp
+displacement_text behind disp = if (disp == 0) && behind then [] else plus behind ++ hex8 disp
 
 unfoldable pub address_text : Address → List ℕ
 address_text a = segment_text a.seg ++ codes "[" ++ base_text a.base ++ index_text (is_some a.base) a.index
@@ -211,9 +200,9 @@ sized_text false w = []
 -- an operand of an instruction that ends before the address `next`; a branch offset is printed as its target
 unfoldable pub operand_text : Bool → ℕ → Operand → List ℕ
 operand_text sized next (Register w r) = register_text w r
-operand_text sized next (Number w n) = hex_text (digits_of w) n
+operand_text sized next (Number w n) = hex_digits (digits_of w) n
 operand_text sized next (Memory w a) = sized_text sized w ++ address_text a
-operand_text sized next (Offset offset) = hex8_text ((next + cast_unsigned w32 offset) % 2 ^ 32)
+operand_text sized next (Offset offset) = hex8 ((next + cast_unsigned w32 offset) % 2 ^ 32)
 
 -- a space before the first operand, a comma and a space before each other
 abbrev pub separator : ℕ → List ℕ

@@ -1,5 +1,5 @@
 // Instructions of 32-bit x86: their types, the opcode table with the byte strings that it lists, and their text.
-// It stands on bit_words.
+// It stands on bit_words and text_fields.
 // Its contract: the definition of a spelling, of which at most one begins a string of bytes, and `write_instr`, the text.
 #![tactic(auto)]
 

@@ -1,11 +1,13 @@
 ghost use Rattle.std.specs.Prelude.{◌≡◌, ℕ, ◌+◌, ◌-◌, ◌*◌, ◌^◌, ◌%◌, ◌<◌, ◌≤◌, ◌++◌, Bool, [], length, is_some, slice_index_or, sum_by};
 ghost use Rattle.arrayvec.specs.ArrayString.{array_string_len};
 ghost use Rattle.x86_syntax.specs.Decodes.{HasSpelling};
-ghost use Rattle.x86_syntax.specs.Text.{hex_digit, hex_text, digits_of, ending_text, width_letter, stem_text, suffix_text, mnemonic_text, lock_text, repeat_text, string_segment_text, byte_registers, word_registers, long_registers, register_text, size_text, sized_text, segment_text, plus, base_text, index_text, displacement_text, address_text, has_size, operand_text, separator, operands_text, next_address, head_text, instr_text, operand_room};
+ghost use Rattle.text_fields.specs.Hex.{hex_digits};
+ghost use Rattle.x86_syntax.specs.Text.{digits_of, ending_text, width_letter, stem_text, suffix_text, mnemonic_text, lock_text, repeat_text, string_segment_text, byte_registers, word_registers, long_registers, register_text, size_text, sized_text, segment_text, plus, base_text, index_text, displacement_text, address_text, has_size, operand_text, separator, operands_text, next_address, head_text, instr_text, operand_room};
 
 use crate::{Address, Cond, Instr, Mnemonic, Operand, Repeat, Seg};
 use arrayvec::ArrayString;
 use bit_words::Width;
+use text_fields::hex_digit;
 
 /// The text of the instruction `i` at the address `at`, whose bytes are `len` in number: prefix words, the
 /// mnemonic and the operands. A branch goes to an address, which is printed in eight hexadecimal digits.
@@ -235,7 +237,7 @@ fn push_next(out: &mut ArrayString<96>, sized: bool, next: u32, k: usize, op: Op
 }
 
 /// Appends an operand of an instruction that ends before the address `next`.
-#[tactic(auto, using(std::proofs::Common::append_assoc), unfolding(crate::specs::Text::operand_text))]
+#[tactic(auto, using(std::proofs::Common::append_assoc), unfolding(crate::specs::Text::operand_text, text_fields::specs::Hex::hex8))]
 fn push_operand(out: &mut ArrayString<96>, sized: bool, next: u32, op: Operand)
     requires { array_string_len out.old + operand_room op ≤ 98 }
     ensures text { out.new.bytes ≡ out.old.bytes ++ operand_text sized next op }
@@ -401,7 +403,7 @@ fn push_index(out: &mut ArrayString<96>, behind: bool, index: Option<(u8, u8)>)
     }
 }
 
-#[tactic(auto, using(std::proofs::Common::append_assoc))]
+#[tactic(auto, using(std::proofs::Common::append_assoc), unfolding(text_fields::specs::Hex::hex8))]
 fn push_displacement(out: &mut ArrayString<96>, behind: bool, disp: u32)
     requires { array_string_len out.old + 9 ≤ 96 }
     ensures text { out.new.bytes ≡ out.old.bytes ++ displacement_text behind disp }
@@ -415,27 +417,15 @@ fn push_displacement(out: &mut ArrayString<96>, behind: bool, disp: u32)
 }
 
 /// Appends the lowest `digits` hexadecimal digits of `n`, in upper case.
-#[tactic(auto, using(std::proofs::Common::append_assoc), unfolding(crate::specs::Text::hex_text))]
+#[tactic(auto, using(std::proofs::Common::append_assoc), unfolding(text_fields::specs::Hex::hex_digits))]
 fn push_hex(out: &mut ArrayString<96>, digits: u8, n: u32)
     requires { array_string_len out.old + digits ≤ 96 }
-    ensures text { out.new.bytes ≡ out.old.bytes ++ hex_text digits n }
+    ensures text { out.new.bytes ≡ out.old.bytes ++ hex_digits digits n }
     ensures length { array_string_len out.new ≡ array_string_len out.old + digits }
 {
     if digits == 0 {
         return;
     }
     push_hex(out, digits - 1, n / 16);
-    out.push(digit(n % 16));
-}
-
-fn digit(d: u32) -> char
-    requires { d < 16 }
-    ensures value { result ≡ hex_digit d }
-    ensures ascii { result < 128 }
-{
-    if d < 10 {
-        char::from(b'0' + d as u8)
-    } else {
-        char::from(b'A' + (d - 10) as u8)
-    }
+    out.push(char::from(hex_digit((n % 16) as u8)));
 }

@@ -4,5 +4,6 @@ use Rattle.abstract_state.proofs.laws.covering_is_sound.Goals as goal
 
 pub returns : goal.returns
 returns g c =
-    let laws = g.met.D.Domain g.world.𝓛 g.world.𝓜 g.world.𝓡 ((λ s x. x), (λ x. x), (λ x. x), λ x. x) in
-    covering-is_sound (values_of g.D.Domain g.D.PartialEq.eq) laws.lawful
+    let d = values_of g.D.Domain g.D.PartialEq.eq in
+    let met = g.met.D.Domain g.world.𝓛 g.world.𝓜 g.world.𝓡 ((λ s x. x), (λ x. x), (λ x. x), λ x. x) in
+    covering-is_sound d met.lawful

@@ -2,7 +2,7 @@ use Rattle.std.proofs.Common.{List, ◌∙◌, ap, sym, map, Some}
 use Rattle.std.specs.Prelude.{find}
 use Rattle.memory_map.specs.Map.{range_of}
 use Rattle.memory_map.specs.declared.segment.Segment.{Segment}
-use Rattle.file_pieces.specs.Found.{holds}
+use Rattle.memory_map.specs.Range.{holds}
 use Rattle.file_pieces.proofs.Lookups.{bytes_at-none_asked, bytes_at-found, bytes_at-none, held}
 use Rattle.file_pieces.proofs.found.bytes_at.Goals as goal
 

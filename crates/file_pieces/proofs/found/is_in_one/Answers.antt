@@ -2,7 +2,7 @@ use Rattle.std.proofs.Common.{List, ◌∙◌, ap, sym, map, is_some}
 use Rattle.std.specs.Prelude.{find}
 use Rattle.memory_map.specs.Map.{range_of}
 use Rattle.memory_map.specs.declared.segment.Segment.{Segment}
-use Rattle.file_pieces.specs.Found.{holds}
+use Rattle.memory_map.specs.Range.{holds}
 use Rattle.file_pieces.proofs.Lookups.{is_in_one-find, is_some-copied}
 use Rattle.file_pieces.proofs.found.is_in_one.Goals as goal
 

@@ -1,7 +1,7 @@
 use Rattle.std.proofs.Common.{◌≡◌, map, length}
 use Rattle.std.specs.Prelude.{find}
 use Rattle.memory_map.specs.Map.{range_of}
-use Rattle.file_pieces.specs.Found.{holds}
+use Rattle.memory_map.specs.Range.{holds}
 use Rattle.file_pieces.proofs.found.segment_with.Given as goal
 
 abbrev pub invariant-loop-first : goal.invariant-loop-first

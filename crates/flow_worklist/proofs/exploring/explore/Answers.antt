@@ -1,11 +1,13 @@
 -- The log so far with what is left to expand is the log of the image.
-use Rattle.std.proofs.Common.{◌≡◌, suc, ◌+◌, ◌-◌, None, sym, ◌∙◌, ap, arith}
+use Rattle.std.proofs.Common.{◌≡◌, suc, ◌+◌, ◌-◌, None, Option, subst, sym, ◌∙◌, ap, arith}
 use Rattle.std.specs.Prelude.{slice_get}
 use Rattle.domain_laws.specs.Made.{values_of}
 use Rattle.flow_log.specs.Log.{explored}
 use Rattle.flow_worklist.specs.Analysis.{analysis_of}
+use Rattle.flow_worklist.specs.declared.post.Post.{Post}
+use Rattle.flow_worklist.specs.PostOf.{IsPostOfRow}
 use Rattle.flow_worklist.specs.Exploring.{log_in}
-use Rattle.flow_worklist.proofs.Expanding.{explored_one, explored_past, explored_spent, explored_all, row_found, none_found}
+use Rattle.flow_worklist.proofs.Expanding.{expanded_is, explored_one, explored_past, explored_spent, explored_all, row_found, none_found}
 use Rattle.flow_worklist.proofs.exploring.explore.Goals as goal
 
 pub loop-n-init : goal.loop-n-init
@@ -27,7 +29,7 @@ returns-in-None g c =
     let d = values_of g.D.Domain g.D.PartialEq.eq in
     let budget = c.args.limits.budget in
     let log = log_in c.loop-n.exploration in
-    let none : slice_get log.rows c.loop-n.n ≡ None = none_found log.rows c.loop-n.n c.in-None.ensures in
+    let none : slice_get log.rows c.loop-n.n ≡ None = none_found d c.args.image.now c.args.limits.k log.rows c.loop-n.n (let P : Option (Post g.row.D.Denot) → Type 0 = IsPostOfRow d c.args.image.now c.args.limits.k (slice_get log.rows c.loop-n.n) in subst P c.in-None.is c.in_ok-found.ensures) in
     c.finish.ensures ∙ sym (explored_past d c.args.image.now c.args.limits.k budget (budget - c.loop-n.n) c.loop-n.n log none) ∙ c.loop-n.invariant.log
 
 pub loop-n-preserved : goal.loop-n-preserved
@@ -38,12 +40,12 @@ loop-n-preserved g c =
     let k = c.args.limits.k in
     let n = c.loop-n.n in
     let log = log_in c.loop-n.exploration in
-    let found = row_found log.rows n c.in-Some.at c.in-Some.state c.in-Some.ensures in
+    let found = row_found d image k log.rows n c.in-Some.post (let P : Option (Post g.row.D.Denot) → Type 0 = IsPostOfRow d image k (slice_get log.rows n) in subst P c.in-Some.is c.in_ok-found.ensures) in
     let fuel : budget - n ≡ suc (budget - (n + 1)) = omega arith in
     record {
-      indexed = c.in_ok-expand-in-Some.ensures.indexed;
+      indexed = c.in_ok-take_in-in-Some.ensures.indexed;
       log = sym (ap (λ f. explored (analysis_of d image k) budget f n log) fuel
-          ∙ explored_one d image k budget (budget - (n + 1)) n found.row log (log_in c.expand.new.self) found.found (c.in_ok-expand-in-Some.ensures.log found.row found.located found.stated))
+          ∙ explored_one d image k budget (budget - (n + 1)) n found.row log (log_in c.take_in.new.self) found.at (c.in_ok-take_in-in-Some.ensures.log ∙ expanded_is d image k budget n found.row c.in-Some.post log found.is))
           ∙ c.loop-n.invariant.log;
     }
 

@@ -1,19 +1,28 @@
--- At the exit place nothing, and at a named place a cause alone.
-use Rattle.std.proofs.Common.{List, ℕ, sym, subst}
+-- Each arm is one case of the expansion.
+use Rattle.std.proofs.Common.{refl, sym, ◌∙◌}
 use Rattle.domain_laws.specs.Made.{values_of}
-use Rattle.flow_worklist.specs.Posted.{Posted}
-use Rattle.flow_worklist.proofs.Posting.{posted-exit, posted-name}
+use Rattle.flow_worklist.specs.declared.site.Site.TheVariants.{Exit, Import, Unlisted}
+use Rattle.flow_worklist.specs.declared.post.Post.{Post}
+use Rattle.flow_worklist.proofs.Posting.{without_steps, with_steps}
 use Rattle.flow_worklist.proofs.post.expanded.Goals as goal
 
-pub returns-then-at-eq-USER_END : goal.returns-then-at-eq-USER_END
-returns-then-at-eq-USER_END g c =
-    let d = values_of g.D.Domain g.D.PartialEq.eq in
-    let P : List ℕ → Type 0 = λ l. Posted d c.args.image.now c.args.at c.args.s.now c.nothing.result l in
-    subst P (sym c.new.ensures) (posted-exit d c.args.image.now c.args.at c.args.s.now c.nothing.result c.if-at-eq-USER_END.true c.nothing.ensures)
+pub returns-in-Exit : goal.returns-in-Exit
+returns-in-Exit g c =
+    without_steps (values_of g.D.Domain g.D.PartialEq.eq) c.args.image.now c.args.k c.args.at c.args.s.now Exit c.without_steps.result (sym c.in-Exit.ensures)
+    c.without_steps.ensures.at (c.without_steps.ensures.expansion ∙ c.nothing.ensures) refl
 
-pub returns-in_ok-caused-in-Some : goal.returns-in_ok-caused-in-Some
-returns-in_ok-caused-in-Some g c =
-    let d = values_of g.D.Domain g.D.PartialEq.eq in
-    let P : List ℕ → Type 0 = λ l. Posted d c.args.image.now c.args.at c.args.s.now c.in_ok-caused-in-Some.field-0 l in
-    subst P (sym c.new-in-Some.ensures) (posted-name d c.args.image.now c.args.at c.args.s.now c.in_ok-caused-in-Some.field-0 c.in-Some.field-0.now c.if-at-eq-USER_END.false
-    (sym c.in-Some.ensures.found) c.in_ok-caused-in-Some.ensures)
+pub returns-in_ok-caused-in-Import : goal.returns-in_ok-caused-in-Import
+returns-in_ok-caused-in-Import g c =
+    without_steps (values_of g.D.Domain g.D.PartialEq.eq) c.args.image.now c.args.k c.args.at c.args.s.now Import c.without_steps-in-Import.result (sym c.in-Import.ensures)
+    c.without_steps-in-Import.ensures.at (c.without_steps-in-Import.ensures.expansion ∙ c.in_ok-caused-in-Import.ensures) refl
+
+pub returns-in_ok-expand_instr-in-Listed : goal.returns-in_ok-expand_instr-in-Listed
+returns-in_ok-expand_instr-in-Listed g c =
+    let answer : Post g.row.D.Denot = record { at = c.args.at; expansion = c.in_ok-expand_instr-in-Listed.field-0; label = c.code_label.result } in
+    with_steps (values_of g.D.Domain g.D.PartialEq.eq) c.args.image.now c.args.k c.args.at c.args.s.now c.in-Listed.i c.in-Listed.size answer (sym c.in-Listed.ensures)
+    refl c.in_ok-expand_instr-in-Listed.ensures c.code_label.ensures
+
+pub returns-in_ok-caused-in-Unlisted : goal.returns-in_ok-caused-in-Unlisted
+returns-in_ok-caused-in-Unlisted g c =
+    without_steps (values_of g.D.Domain g.D.PartialEq.eq) c.args.image.now c.args.k c.args.at c.args.s.now Unlisted c.without_steps-in-Unlisted.result (sym c.in-Unlisted.ensures)
+    c.without_steps-in-Unlisted.ensures.at (c.without_steps-in-Unlisted.ensures.expansion ∙ c.in_ok-caused-in-Unlisted.ensures) refl

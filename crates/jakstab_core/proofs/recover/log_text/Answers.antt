@@ -1,5 +1,5 @@
 -- The log has a row and its edges are spelled, so it is an automaton's that can be printed.
-use Rattle.std.proofs.Common.{◌<◌, length, sym, ◌∙◌, ap, subst}
+use Rattle.std.proofs.Common.{rules, ◌<◌, length, sym, ◌∙◌, ap, subst}
 use Rattle.std.proofs.lemmas.Result.{IfOk-weaker}
 use Rattle.domain_laws.specs.Made.{values_of}
 use Rattle.automaton_text.specs.declared.automaton.Automaton.{Automaton}
@@ -12,7 +12,9 @@ use Rattle.jakstab_core.proofs.recover.log_text.Goals as goal
 pub automaton_of-requires : goal.automaton_of-requires
 automaton_of-requires g c =
     let P : ImageLog g.row.D.Denot → Type 0 = λ log. 0 < length log.rows in
-    subst P (sym c.in_ok-log.ensures) (log_has_row (values_of g.D.Domain g.D.PartialEq.eq) c.args.image.now c.args.limits.k c.args.limits.budget)
+    let some : 0 < length c.in_ok-log.log.rows =
+    subst P (sym c.in_ok-log.ensures) (log_has_row (values_of g.D.Domain g.D.PartialEq.eq) c.args.image.now c.args.limits.k c.args.limits.budget) in
+    search (rules, some)
 
 pub print_automaton-requires : goal.print_automaton-requires
 print_automaton-requires g c =

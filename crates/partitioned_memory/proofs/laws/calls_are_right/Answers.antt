@@ -1,5 +1,5 @@
 use Rattle.domain_laws.specs.Made.{values_of}
-use Rattle.partitioned_memory.proofs.FactsKept.{exact-keeps, inside-keeps}
+use Rattle.partitioned_memory.proofs.FactsKept.{beside-keeps, exact-keeps, inside-keeps}
 use Rattle.partitioned_memory.proofs.CallsKept.{covers-describes, forget-keeps, read-stands}
 use Rattle.partitioned_memory.proofs.BlockKept.{block-keeps}
 use Rattle.partitioned_memory.proofs.laws.calls_are_right.Goals as goal
@@ -15,5 +15,6 @@ returns g c =
       write_inside = inside-keeps d;
       forget_below = forget-keeps d;
       add_block = block-keeps d laws;
+      beside = beside-keeps d;
       covers = covers-describes d laws;
     }

@@ -1,7 +1,7 @@
 use Rattle.std.proofs.Common.{◌≡◌, ◌∙◌, sym, true, map, arith}
 use Rattle.std.specs.List.{list_any}
 use Rattle.memory_map.specs.Map.{range_of}
-use Rattle.file_pieces.specs.Found.{holds}
+use Rattle.memory_map.specs.Range.{holds}
 use Rattle.pe32_reader.proofs.Found.{in_one-below}
 use Rattle.pe32_reader.proofs.slots.slot_address.Goals as goal
 

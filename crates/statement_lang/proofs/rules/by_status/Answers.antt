@@ -1,6 +1,6 @@
 use Rattle.std.proofs.Common.{◌∙◌, ap}
 use Rattle.statement_lang.specs.Run.{set_to}
-use Rattle.statement_lang.specs.Seen.{flags_of}
+use Rattle.statement_lang.specs.Cells.{flags_of}
 use Rattle.statement_lang.proofs.FlagFacts.{status-by-bits}
 use Rattle.statement_lang.proofs.rules.by_status.Goals as goal
 

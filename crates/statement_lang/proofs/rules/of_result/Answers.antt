@@ -2,7 +2,7 @@ use Rattle.std.proofs.Common.{◌∙◌, ap}
 use Rattle.bit_words.specs.Flags.{FlagBits, logic_flags}
 use Rattle.memory_map.specs.State.{Flags}
 use Rattle.x86_semantics.specs.FlagRules.{with_status}
-use Rattle.statement_lang.specs.Seen.{flags_of}
+use Rattle.statement_lang.specs.Cells.{flags_of}
 use Rattle.statement_lang.proofs.rules.of_result.Goals as goal
 
 pub returns : goal.returns

@@ -1,10 +1,10 @@
 -- What is kept of the other locations is as it was.
-use Rattle.std.proofs.Common.{ℕ, Option, List, sym, ap, subst}
+use Rattle.std.proofs.Common.{Option, List, sym, ap, subst}
 use Rattle.std.specs.Prelude.{nat_eq}
 use Rattle.std.specs.HashMap.{get}
 use Rattle.domain_laws.specs.Made.{values_of}
-use Rattle.flow_log.specs.Log.{Row, states_at}
-use Rattle.abstract_state.specs.declared.state.State.{State}
+use Rattle.flow_log.specs.Log.{Row}
+use Rattle.abstract_state.specs.State.{Known}
 use Rattle.flow_worklist.specs.declared.visits.Visits.{Visits}
 use Rattle.flow_worklist.specs.Exploring.{IsKept, IsIndexedBut}
 use Rattle.flow_worklist.proofs.exploring.Exploration.add.Goals as goal
@@ -16,8 +16,8 @@ add_row-requires-clause-others g c =
     let after = c.take-visits.new.self in
     let made : IsIndexedBut d c.args.edge.to after = record {
       kept = λ q apart.
-          let P : Option (Visits g.row.D.Denot) → Type 0 = λ o. IsKept d o (states_at q after.rows.items) in
-          let Q : List (Row (State g.row.D.Denot)) → Type 0 = λ rows. IsKept d (get nat_eq before.visits q) (states_at q rows) in
+          let P : Option (Visits g.row.D.Denot) → Type 0 = λ o. IsKept d o q after.rows.items in
+          let Q : List (Row (Known g.row.D.Denot)) → Type 0 = λ rows. IsKept d (get nat_eq before.visits q) q rows in
           subst P (sym (c.take-visits.ensures.others q apart)) (subst Q (sym (ap (λ v. v.items) c.take-visits.ensures.rows)) (c.requires.kept q));
     } in
     λ κs h. made

@@ -1,7 +1,6 @@
 -- Where nothing is kept, the location has no row.
-use Rattle.std.proofs.Common.{ℕ, Option, List, sym, subst}
+use Rattle.std.proofs.Common.{Option, sym, subst}
 use Rattle.domain_laws.specs.Made.{values_of}
-use Rattle.flow_log.specs.Log.{states_at}
 use Rattle.flow_worklist.specs.declared.visits.Visits.{Visits}
 use Rattle.flow_worklist.specs.Exploring.{IsKept}
 use Rattle.flow_worklist.proofs.Indexing.{is_new}
@@ -10,6 +9,6 @@ use Rattle.flow_worklist.proofs.exploring.Exploration.take.Goals as goal
 pub returns-in-None-clause-taken : goal.returns-in-None-clause-taken
 returns-in-None-clause-taken g c =
     let d = values_of g.D.Domain g.D.PartialEq.eq in
-    let states = states_at c.args.at c.args.self.now.rows.items in
-    let P : Option (Visits g.row.D.Denot) → Type 0 = λ o. IsKept d o states in
-    is_new d c.new.result states c.new.ensures.states c.new.ensures.seen (subst P (sym c.in-None.ensures.value) (c.requires.kept c.args.at))
+    let rows = c.args.self.now.rows.items in
+    let P : Option (Visits g.row.D.Denot) → Type 0 = λ o. IsKept d o c.args.at rows in
+    is_new d c.new.result c.args.at rows c.new.ensures.numbers c.new.ensures.seen (subst P (sym c.in-None.ensures.value) (c.requires.kept c.args.at))

@@ -1,11 +1,12 @@
 use Rattle.std.proofs.Common.{◌≡◌, ◌+◌, ◌-◌, ◌++◌, ◌∷◌, [], ap, sym, ◌∙◌, arith, List, ℕ, Some, None, map}
 use Rattle.std.proofs.lemmas.List.{append-nil, append_assoc}
-use Rattle.memory_map.specs.Range.{code_at, run_of}
+use Rattle.memory_map.specs.Range.{code_at, code_run, run_of}
 use Rattle.memory_map.specs.Map.{range_of}
 use Rattle.memory_map.proofs.Lists.{run_of-stops, run_of-goes, run_of-none}
 use Rattle.memory_map.proofs.segments.Segments.fetch.Goals as goal
 
 pub returns-in-None : goal.returns-in-None
+unfolding code_run
 returns-in-None c =
     let look = code_at (map range_of c.args.self.now) in
     let here : look (c.args.a + c.loop-i.i) ≡ None = cc in
@@ -27,6 +28,7 @@ loop-i-preserved c =
     )
 
 pub returns : goal.returns
+unfolding code_run
 returns c =
     let look = code_at (map range_of c.args.self.now) in
     let none = run_of-none look (15 - c.loop-i.i) (c.args.a + c.loop-i.i) (omega arith) in

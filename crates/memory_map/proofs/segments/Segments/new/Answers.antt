@@ -35,7 +35,8 @@ returns-then-are_too_large-clause-exact c =
 
 pub invariant_of-result : goal.invariant_of-result
 invariant_of-result c =
-    tests_pass c.retain.new.self.items c.deref.result.now c.deref-2.result.now c.deref-3.result.now c.are_in_user_space.result c.are_all_apart.result c.are_too_large.result c.deref.ensures.value c.deref-2.ensures.value c.deref-3.ensures.value c.are_in_user_space.ensures c.are_all_apart.ensures c.are_too_large.ensures.size c.are_too_large.ensures.bytes c.if-not-are_in_user_space.false c.if-not-are_all_apart.false c.if-are_too_large.false
+    let kept : c.retain.new.self.items ≡ mapped c.args.list.items = filter_from_retain _ maps_some (λ p x b q h. search rules) _ _ _ c.retain.ensures.filtered in
+    tests_pass c.args.list.items c.retain.new.self.items c.deref.result.now c.deref-2.result.now c.deref-3.result.now c.are_in_user_space.result c.are_all_apart.result c.are_too_large.result kept c.deref.ensures.value c.deref-2.ensures.value c.deref-3.ensures.value c.are_in_user_space.ensures c.are_all_apart.ensures c.are_too_large.ensures.size c.are_too_large.ensures.bytes c.if-not-are_in_user_space.false c.if-not-are_all_apart.false c.if-are_too_large.false
 
 pub returns-clause-exact : goal.returns-clause-exact
 returns-clause-exact c =
@@ -48,4 +49,5 @@ returns-clause-exact c =
 
 pub returns-clause-map : goal.returns-clause-map
 returns-clause-map c =
-    tests_pass c.retain.new.self.items c.deref.result.now c.deref-2.result.now c.deref-3.result.now c.are_in_user_space.result c.are_all_apart.result c.are_too_large.result c.deref.ensures.value c.deref-2.ensures.value c.deref-3.ensures.value c.are_in_user_space.ensures c.are_all_apart.ensures c.are_too_large.ensures.size c.are_too_large.ensures.bytes c.if-not-are_in_user_space.false c.if-not-are_all_apart.false c.if-are_too_large.false
+    let kept : c.retain.new.self.items ≡ mapped c.args.list.items = filter_from_retain _ maps_some (λ p x b q h. search rules) _ _ _ c.retain.ensures.filtered in
+    tests_pass c.args.list.items c.retain.new.self.items c.deref.result.now c.deref-2.result.now c.deref-3.result.now c.are_in_user_space.result c.are_all_apart.result c.are_too_large.result kept c.deref.ensures.value c.deref-2.ensures.value c.deref-3.ensures.value c.are_in_user_space.ensures c.are_all_apart.ensures c.are_too_large.ensures.size c.are_too_large.ensures.bytes c.if-not-are_in_user_space.false c.if-not-are_all_apart.false c.if-are_too_large.false

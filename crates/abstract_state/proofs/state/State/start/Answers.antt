@@ -1,0 +1,10 @@
+use Rattle.std.proofs.Common.{rules}
+use Rattle.domain_laws.specs.Made.{values_of}
+use Rattle.abstract_state.proofs.Beginning.{start-fields}
+use Rattle.abstract_state.proofs.state.State.start.Goals as goal
+
+pub invariant_of-result : goal.invariant_of-result
+invariant_of-result g c =
+    let d = values_of g.D.Domain g.D.PartialEq.eq in
+    let met = g.met.D.Domain g.world.𝓛 g.world.𝓜 g.world.𝓡 ((λ s x. x), (λ x. x), (λ x. x), λ x. x) in
+    start-fields d met.lawful c.args.image.now _ _ _ _ (search rules) (search rules) (search rules)

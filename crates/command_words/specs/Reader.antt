@@ -1,0 +1,63 @@
+-- What `clap` is told of a command, and what it is to read.
+use Rattle.std.specs.Prelude.{◌≡◌, Bool, true, false, List, [], ◌∷◌, map, Option, None, Some, codes, unwrap_or, bytes_eq}
+use Rattle.std.specs.List.{list_any}
+use Rattle.clap.specs.Walk.{Row, Rule, Text, all_of}
+use Rattle.clap.specs.Simple.{App, new_rule, new_shape}
+use Rattle.clap.specs.declared.builder.action.ArgAction.TheVariants.{Append, Set}
+use Rattle.clap.specs.declared.builder.value_parser.ValueParser.TheVariants as vp
+use Rattle.std.specs.Prelude.{Result, MatchResult, option_map}
+use Rattle.command_words.specs.declared.task.Task.TheVariants.{Recover, List as ListImage}
+use Rattle.command_words.specs.declared.words.Asked.{Asked}
+use Rattle.command_words.specs.declared.words.WordsFault.{WordsFault}
+use Rattle.command_words.specs.declared.words.WordsFault.TheVariants.{Usage}
+use Rattle.command_words.specs.Words.{Piece, Command, dashed, values_of, is_refused, named_command, asked_with, options_with, number_given, domain_given, file_given, only_name, K_DEFAULT, K_LIMIT, BUDGET_DEFAULT, BUDGET_LIMIT}
+
+-- the id of the positional words
+abbrev pub WORDS : Text
+WORDS = codes "words"
+
+-- `--NAME VALUE`
+abbrev pub option_rule : Text → Rule
+option_rule name = record (new_rule name) { long = Some name; action = Some Set; parser = Some vp.NonEmptyString }
+
+abbrev pub words_rule : Rule
+words_rule = record (new_rule WORDS) { action = Some Append; parser = Some vp.NonEmptyString }
+
+-- a command with these options and any number of positional words
+abbrev pub reader : Text → List Text → App
+reader name options = record {
+  top = record (new_shape name) { rules = words_rule ∷ map option_rule options; disable_help_flag = true };
+  subs = [];
+}
+
+abbrev pub is_known : Text → List Text → Bool
+is_known name options = list_any (λ option. bytes_eq option name) options
+
+-- the values in the row of an id
+abbrev pub listed : Text → List Row → List Text
+listed id rows = unwrap_or (all_of id rows) []
+
+-- the rows hold what was given
+pub record IsRead (options : List Text) (given : List Piece) (rows : List Row) : Type 0 where
+  pub accepted : is_refused options given ≡ false
+  pub words : listed WORDS rows ≡ values_of None given
+  pub named : (name : Text) → is_known name options ≡ true → listed name rows ≡ values_of (Some (dashed name)) given
+
+-- what `recover` makes of the rows
+abbrev pub recover_read : List Row → Option Command
+recover_read rows =
+    asked_with (only_name (listed WORDS rows)) (Some None)
+    (option_map Recover (options_with
+    (number_given K_DEFAULT K_LIMIT (listed (codes "k") rows))
+    (number_given BUDGET_DEFAULT BUDGET_LIMIT (listed (codes "budget") rows))
+    (domain_given (listed (codes "domain") rows))))
+
+abbrev pub list_read : List Row → Option Command
+list_read rows = asked_with (only_name (listed WORDS rows)) (file_given (listed (codes "stubs") rows)) (Some ListImage)
+
+abbrev pub asked_of : Asked → Command
+asked_of asked = named_command asked.image.now (option_map (λ s. s.now) asked.stubs) asked.task
+
+-- an answer is the command, a refusal comes only where there is none, and memory may be wanting at any words
+abbrev pub Answers : Result Asked WordsFault → Option Command → Type 0
+Answers result wanted = MatchResult result (λ asked. wanted ≡ Some (asked_of asked)) (λ fault. fault ≡ Usage → wanted ≡ None)

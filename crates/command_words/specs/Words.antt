@@ -1,0 +1,234 @@
+-- The words of the command line after the program's name.
+use Rattle.std.specs.Prelude.{ℕ, Bool, true, false, not, ◌&&◌, ◌||◌, ◌==◌, List, [], ◌∷◌, ◌++◌, Option, None, Some, option_map, option_and_then, nat_le, nat_lt, map, length, codes, bytes_eq, if◌then◌else◌}
+use Rattle.std.specs.List.{list_all, list_any, before_first, after_first}
+use Rattle.std.specs.Str.{str_to_ascii_uppercase}
+use Rattle.std.specs.Str.Parse.{digits_value}
+use Rattle.text_fields.specs.Hex.{number_after}
+use Rattle.command_words.specs.declared.task.DomainName.{DomainName}
+use Rattle.command_words.specs.declared.task.DomainName.TheVariants.{Flat, Bounded}
+use Rattle.command_words.specs.declared.task.Options.{Options}
+use Rattle.command_words.specs.declared.task.Task.{Task}
+use Rattle.command_words.specs.declared.task.Task.TheVariants.{Recover, List as ListImage, Decode}
+
+-- a command: the name of an image's file, and what is done with the image
+pub record Command : Type 0 where
+  pub image : List ℕ
+  pub stubs : Option (List ℕ)
+  pub task : Task
+
+abbrev pub named_command : List ℕ → Option (List ℕ) → Task → Command
+named_command image stubs task = record { image = image; stubs = stubs; task = task }
+
+-- an option begins with a dash and is longer than that
+abbrev pub is_option : List ℕ → Bool
+is_option [] = false
+is_option (first ∷ rest) = (first == 45) && not (length rest == 0)
+
+-- the word behind which no word is an option
+abbrev pub is_end_of_options : List ℕ → Bool
+is_end_of_options word = bytes_eq word (codes "--")
+
+-- eight hexadecimal digits, of either case each
+abbrev pub address_of : List ℕ → Option ℕ
+address_of word = if length word == 8 then number_after 0 (str_to_ascii_uppercase word) else None
+
+-- a number is 1 to 10 decimal digits
+abbrev pub is_digit : ℕ → Bool
+is_digit c = nat_le 48 c && nat_le c 57
+
+abbrev pub is_number : List ℕ → Bool
+is_number word = nat_le 1 (length word) && nat_le (length word) 10 && list_all is_digit word
+
+-- the number that a word writes, from 1 to a limit
+abbrev pub is_within : ℕ → ℕ → Bool
+is_within limit n = nat_le 1 n && nat_le n limit
+
+abbrev pub number_within : ℕ → List ℕ → Option ℕ
+number_within limit word = if is_number word && is_within limit (digits_value 10 word) then Some (digits_value 10 word) else None
+
+-- how many instructions `decode` lists, at most
+abbrev pub COUNT_LIMIT : ℕ
+COUNT_LIMIT = 100000
+
+-- `--k`: how many values of one rank a location sees before they are widened, where the words do not say, and at most
+abbrev pub K_DEFAULT : ℕ
+K_DEFAULT = 32
+
+abbrev pub K_LIMIT : ℕ
+K_LIMIT = 1024
+
+-- `--budget`: how many rows are expanded, where the words do not say, and at most
+abbrev pub BUDGET_DEFAULT : ℕ
+BUDGET_DEFAULT = 100000
+
+abbrev pub BUDGET_LIMIT : ℕ
+BUDGET_LIMIT = 1000000
+
+-- `IMAGE ADDRESS COUNT`
+abbrev pub listing_of : List (List ℕ) → Option Command
+listing_of (image ∷ address ∷ count ∷ []) =
+    if length image == 0 then None
+    else option_and_then (λ at. option_map (λ n. named_command image None (Decode at n)) (number_within COUNT_LIMIT count)) (address_of address)
+listing_of _ = None
+
+-- words are read in pieces: an option, named with its dashes, and its value, or a positional word, which has no option.
+-- An option that lacks its value has the empty one, which none takes
+pub record Piece : Type 0 where
+  pub option : Option (List ℕ)
+  pub value : List ℕ
+
+abbrev pub is_equals : ℕ → Bool
+is_equals c = c == 61
+
+-- the piece of a word that does not look at the next one: a positional word, or `--x=VALUE`
+abbrev pub piece_alone : List ℕ → Piece
+piece_alone word =
+    if is_option word then record { option = Some (before_first is_equals word); value = after_first is_equals word }
+    else record { option = None; value = word }
+
+-- an option without an equals sign has its value in the next word
+abbrev pub takes_next : List ℕ → Bool
+takes_next word = is_option word && not (list_any is_equals word)
+
+abbrev pub pieces : List (List ℕ) → List Piece
+pieces [] = []
+pieces (word ∷ []) = piece_alone word ∷ []
+pieces (word ∷ next ∷ words) =
+    if takes_next word && not (is_option next) then record { option = Some word; value = next } ∷ pieces words
+    else piece_alone word ∷ pieces (next ∷ words)
+
+-- whether a piece is of an option, or is positional where none is asked for
+abbrev pub is_same : Option (List ℕ) → Option (List ℕ) → Bool
+is_same None None = true
+is_same None (Some other) = false
+is_same (Some option) None = false
+is_same (Some option) (Some other) = bytes_eq option other
+
+-- what was given to an option, in order, or the positional words
+abbrev pub values_of : Option (List ℕ) → List Piece → List (List ℕ)
+values_of option [] = []
+values_of option (piece ∷ rest) = if is_same piece.option option then piece.value ∷ values_of option rest else values_of option rest
+
+-- ---- what is given to a command
+
+-- an option with its dashes
+abbrev pub dashed : List ℕ → List ℕ
+dashed name = 45 ∷ 45 ∷ name
+
+abbrev pub plain_piece : List ℕ → Piece
+plain_piece word = record { option = None; value = word }
+
+-- the word `--` makes all later words positional
+abbrev pub all_pieces : List (List ℕ) → List Piece
+all_pieces words = pieces (before_first is_end_of_options words) ++ map plain_piece (after_first is_end_of_options words)
+
+abbrev pub is_unknown : List (List ℕ) → Option (List ℕ) → Bool
+is_unknown options None = false
+is_unknown options (Some option) = not (list_any (λ name. bytes_eq (dashed name) option) options)
+
+abbrev pub is_filled : List ℕ → Bool
+is_filled word = nat_lt 0 (length word)
+
+-- a piece of an option that is not the command's, or without a value, or an empty word
+abbrev pub is_bad : List (List ℕ) → Piece → Bool
+is_bad options piece = is_unknown options piece.option || not (is_filled piece.value)
+
+-- an option is given at most once
+abbrev pub is_repeated : List Piece → List ℕ → Bool
+is_repeated given name = nat_lt 1 (length (values_of (Some (dashed name)) given))
+
+abbrev pub is_refused : List (List ℕ) → List Piece → Bool
+is_refused options given = list_any (is_bad options) given || list_any (is_repeated given) options
+
+-- what is given to a command with these options
+abbrev pub words_given : List (List ℕ) → List (List ℕ) → Option (List Piece)
+words_given options words = if is_refused options (all_pieces words) then None else Some (all_pieces words)
+
+-- ---- the commands
+
+-- an option is given at most once
+abbrev pub number_given : ℕ → ℕ → List (List ℕ) → Option ℕ
+number_given default limit [] = Some default
+number_given default limit (value ∷ []) = number_within limit value
+number_given default limit (value ∷ next ∷ rest) = None
+
+abbrev pub domain_named : List ℕ → Option DomainName
+domain_named word =
+    if bytes_eq word (codes "flat") then Some Flat
+    else if bytes_eq word (codes "bounded") then Some Bounded
+    else None
+
+abbrev pub domain_given : List (List ℕ) → Option DomainName
+domain_given [] = Some Bounded
+domain_given (value ∷ []) = domain_named value
+domain_given (value ∷ next ∷ rest) = None
+
+-- the values given to the option of a name
+abbrev pub given_to : List ℕ → List Piece → List (List ℕ)
+given_to name given = values_of (Some (dashed name)) given
+
+-- options, where each of their values is there
+abbrev pub options_with : Option ℕ → Option ℕ → Option DomainName → Option Options
+options_with (Some k) (Some budget) (Some domain) = Some (record { k = k; budget = budget; domain = domain })
+options_with _ _ _ = None
+
+-- `--k`, `--budget` and `--domain`, each with its default and its range
+abbrev pub options_of : List Piece → Option Options
+options_of given =
+    options_with
+    (number_given K_DEFAULT K_LIMIT (given_to (codes "k") given))
+    (number_given BUDGET_DEFAULT BUDGET_LIMIT (given_to (codes "budget") given))
+    (domain_given (given_to (codes "domain") given))
+
+-- exactly one positional word, the name of a file, which is not empty
+abbrev pub file_name : List ℕ → Option (List ℕ)
+file_name word = if length word == 0 then None else Some word
+
+abbrev pub only_name : List (List ℕ) → Option (List ℕ)
+only_name [] = None
+only_name (word ∷ []) = file_name word
+only_name (word ∷ next ∷ rest) = None
+
+-- a file that may be left out
+abbrev pub file_given : List (List ℕ) → Option (Option (List ℕ))
+file_given [] = Some None
+file_given (value ∷ []) = Some (Some value)
+file_given (value ∷ next ∷ rest) = None
+
+-- a command, where its image and what it does are there
+abbrev pub asked_with : Option (List ℕ) → Option (Option (List ℕ)) → Option Task → Option Command
+asked_with (Some image) (Some stubs) (Some task) = Some (named_command image stubs task)
+asked_with _ _ _ = None
+
+-- `recover IMAGE` with its options
+abbrev pub recover_given : List Piece → Option Command
+recover_given given = asked_with (only_name (values_of None given)) (Some None) (option_map Recover (options_of given))
+
+abbrev pub RECOVER_OPTIONS : List (List ℕ)
+RECOVER_OPTIONS = codes "k" ∷ codes "budget" ∷ codes "domain" ∷ []
+
+abbrev pub recover_of : List (List ℕ) → Option Command
+recover_of words = option_and_then recover_given (words_given RECOVER_OPTIONS words)
+
+-- `list IMAGE`, with `--stubs`
+abbrev pub list_given : List Piece → Option Command
+list_given given = asked_with (only_name (values_of None given)) (file_given (given_to (codes "stubs") given)) (Some ListImage)
+
+abbrev pub LIST_OPTIONS : List (List ℕ)
+LIST_OPTIONS = codes "stubs" ∷ []
+
+abbrev pub list_of : List (List ℕ) → Option Command
+list_of words = option_and_then list_given (words_given LIST_OPTIONS words)
+
+-- `decode IMAGE ADDRESS COUNT`
+abbrev pub decode_of : List (List ℕ) → Option Command
+decode_of words = option_and_then (λ given. listing_of (values_of None given)) (words_given [] words)
+
+-- the command that the words are; other words are none
+abbrev pub command_of : List (List ℕ) → Option Command
+command_of [] = None
+command_of (command ∷ words) =
+    if bytes_eq command (codes "recover") then recover_of words
+    else if bytes_eq command (codes "list") then list_of words
+    else if bytes_eq command (codes "decode") then decode_of words
+    else None

@@ -1,0 +1,115 @@
+use crate::tests::{file_with, sink, words_of};
+use crate::{Status, jakstab};
+use outside_io::MemoryShelf;
+use std::alloc::{AllocError, Global};
+use std::test::Fail;
+
+// A switch whose table has 40 words, behind a comparison with 39.
+fn switch_forty(alloc: Global) -> Result<Vec<u8>, AllocError> {
+    let mut code = b"\x83\xF8\x27\x77\x07\xFF\x24\x85\x35\x80\x04\x08".to_vec(alloc)?;
+    for _ in 0..41 {
+        code.push(0xF4)?;
+    }
+    for i in 0..40u32 {
+        code.extend_from_slice(&(0x0804_800D + i).to_le_bytes())?;
+    }
+    Ok(code)
+}
+
+const TWO_CALLS: &str = "\
+edge 08048000 0804800B E806000000 call 0804800B
+edge 08048005 0804800B E801000000 call 0804800B
+edge 0804800B 08048005 C3 ret
+edge 0804800B 0804800A C3 ret
+end 4 4 0
+";
+
+// The comparison bounds the index, and each target is read from the table.
+const SWITCH_THREE: &str = "\
+edge 08048005 0804800D FF248510800408 jmp dword [eax*4+08048010]
+edge 08048005 0804800E FF248510800408 jmp dword [eax*4+08048010]
+edge 08048005 0804800F FF248510800408 jmp dword [eax*4+08048010]
+end 7 6 0
+";
+
+const LOOP_SELF: &str = "\
+edge 08048005 08048005 E2FE loop 08048005
+edge 08048005 08048007 E2FE loop 08048005
+end 3 3 0
+";
+
+const REP_STOS: &str = "\
+edge 08048000 08048004 8D7C24F0 lea edi, [esp+FFFFFFF0]
+edge 08048004 08048009 B903000000 mov ecx, 00000003
+edge 08048009 08048009 F3AA rep stosb
+edge 08048009 0804800B F3AA rep stosb
+end 4 4 0
+";
+
+#[test]
+fn texts_of_memory_and_of_faults_end_so(rt: HostRuntime) -> Result<(), Fail> {
+    let alloc = rt.alloc();
+    let plain: &[&str] = &["recover", "a"];
+    let four: &[&str] = &["recover", "--k", "4", "a"];
+    let sixty_four: &[&str] = &["recover", "--k", "64", "a"];
+    let forty = switch_forty(alloc)?;
+    let rows: [(&[&str], &[u8], &str); 14] = [
+        (plain, b"\xE8\x06\0\0\0\xE8\x01\0\0\0\xF4\xC3", TWO_CALLS),
+        (
+            plain,
+            b"\x83\xF8\x02\x77\x07\xFF\x24\x85\x10\x80\x04\x08\xF4\xF4\xF4\xF4\x0D\x80\x04\x08\x0E\x80\x04\x08\x0F\x80\x04\x08",
+            SWITCH_THREE,
+        ),
+        (plain, &forty, "open 08048005 target\nend 4 3 1\n"),
+        (sixty_four, &forty, "\nend 44 43 0\n"),
+        (
+            plain,
+            b"\xFF\xE0",
+            "loc 08048000\nopen 08048000 target\nend 1 0 1\n",
+        ),
+        (
+            plain,
+            b"\x89\x08",
+            "loc 08048000\nopen 08048000 store\nend 1 0 1\n",
+        ),
+        (
+            plain,
+            b"\xC6\x05\x07\x80\x04\x08\x90\xF4",
+            "loc 08048000\nend 1 0 0\n",
+        ),
+        (plain, b"\xA3\0\0\0\0", "loc 08048000\nend 1 0 0\n"),
+        (
+            four,
+            b"\xE8\xFB\xFF\xFF\xFF",
+            "open 08048000 store\nend 1 1 1\n",
+        ),
+        (
+            plain,
+            b"\x81\xEC\0\0\x20\0\x50",
+            "edge 08048000 08048006 81EC00002000 sub esp, 00200000\nopen 08048006 stack\nend 2 1 1\n",
+        ),
+        (plain, b"\xB9\x02\0\0\0\xE2\xFE\xF4", LOOP_SELF),
+        (
+            plain,
+            b"\x8D\x7C\x24\xF0\xB9\x03\0\0\0\xF3\xAA\xF4",
+            REP_STOS,
+        ),
+        (plain, b"\x31\xC9\xF7\xF1\xF4", "\nend 2 1 0\n"),
+        (
+            plain,
+            b"\x31\xC0\xB9\x20\0\0\0\xD3\xE0\x74\x01\xCC\xF4",
+            "edge 08048009 0804800C 7401 je 0804800C\nend 5 4 0\n",
+        ),
+    ];
+    for (words, code, end) in rows {
+        let words = words_of(alloc, words)?;
+        let mut shelf = MemoryShelf::new(alloc, Vec::new(alloc));
+        shelf.put("a", file_with(alloc, code)?)?;
+        let mut out = sink(alloc, 4096, Vec::new(alloc))?;
+        let mut note = sink(alloc, 4096, Vec::new(alloc))?;
+        let status = jakstab(&rt, alloc, &words, &mut shelf, &mut out, &mut note);
+        assert_eq!(rt; status, Status::Done, "{end}");
+        assert!(rt; out.written().ends_with(end.as_bytes()), "{end}");
+    }
+    Ok(())
+}

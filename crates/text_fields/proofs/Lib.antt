@@ -1,0 +1,2 @@
+pub mod DecimalFacts
+pub mod HexFacts

@@ -1,0 +1,207 @@
+-- Shifts and rotations: their expansion stands for what they do.
+use Rattle.std.proofs.Common.{◌≡◌, ℕ, ◌-◌, ◌<◌, ◌/◌, ◌%◌, ◌^◌, Bool, true, false, ◌==◌, cond, List, Option, Some, None, refl, sym, ◌∙◌, ap, subst, arith}
+use Rattle.std.specs.Prelude.{All, nat_lt, if◌then◌else◌, ℤ, pos, negsuc}
+use Rattle.std.proofs.lemmas.Bool.{and_parts, eqb-true}
+use Rattle.address_regions.specs.Places.{Places}
+use Rattle.bit_words.specs.declared.width.Width.{Width}
+use Rattle.bit_words.specs.declared.width.Width.TheVariants.{B8, B16, B32}
+use Rattle.bit_words.specs.declared.op.Op.{Op}
+use Rattle.bit_words.specs.declared.op.Op.TheVariants.{Shl, Shr, Sar, Rol, Ror, Low8, High8, PutLow8, PutHigh8}
+use Rattle.bit_words.specs.Width.{bits_of, cut, signed_of, word_of}
+use Rattle.bit_words.specs.Operators.{apply_op, formula, shifted_down}
+use Rattle.bit_words.proofs.Laws.{apply-lt, cut-cut, cut_fit, put_low8-low8, put_high8-high8, put_low16-low16}
+use Rattle.bit_words.proofs.SignedLaws.{word_of-signed_of}
+use Rattle.domain_laws.specs.Laws.{Values, IsLawful}
+use Rattle.memory_map.specs.declared.choice.Choice.{Choice}
+use Rattle.memory_map.specs.declared.registers.Regs.{Regs}
+use Rattle.memory_map.specs.Image.{Image}
+use Rattle.memory_map.specs.Registers.{register, with_register}
+use Rattle.memory_map.specs.State.{MachineState, Flags}
+use Rattle.partitioned_memory.specs.declared.fact.Counted.{Counted}
+use Rattle.x86_syntax.specs.declared.instr.Operand.{Operand}
+use Rattle.x86_syntax.specs.declared.instr.Operand.TheVariants.{Register, Number, Memory, Offset}
+use Rattle.x86_semantics.specs.declared.flag_rule.FlagRule.{FlagRule}
+use Rattle.x86_semantics.specs.Operands.{Ended, Next, at_address, with_flags as with_flags_of, writing as writing_of}
+use Rattle.x86_semantics.specs.Registers.{byte_part, put_byte_part, part as part_of, with_part as with_part_of, register as register_of, with_register as with_register_of}
+use Rattle.x86_semantics.specs.Shifts.{shift as shift_of, shift_by as shift_by_of, shifted_flags}
+use Rattle.x86_semantics.specs.Widths.{has_place, is_count, is_place, is_value, is_width, width_of}
+use Rattle.x86_semantics.proofs.Storing.{IsFixedCode}
+use Rattle.abstract_state.specs.Expanding.{Expanded, Path, lands}
+use Rattle.abstract_state.specs.Flags.{FlagsStand}
+use Rattle.abstract_state.proofs.Bridge.{any_known, number_known}
+use Rattle.transfer_functions.specs.Arithmetic.{flagged}
+use Rattle.transfer_functions.specs.Flags.{ruled_truths}
+use Rattle.transfer_functions.specs.Shifts.{is_no_shift, shift, shift_by, shifted, unshifted}
+use Rattle.transfer_functions.specs.Values.{writing}
+use Rattle.transfer_functions.proofs.FlagsSound.{counted_stand, is_counted}
+use Rattle.transfer_functions.proofs.Steps.{S, H, E, IsRead, eval_stands, lands_ends, reading_ends, register_stands, with_flags_holds, writing_ends}
+use Rattle.transfer_functions.proofs.SoundArithmetic.{place_is_value, same_width}
+use Rattle.transfer_functions.proofs.Words.{count_fits}
+
+-- ---- by a count of 0
+
+-- the operators of shifts and rotations
+abbrev pub is_shift : Op → Bool
+is_shift Shl = true
+is_shift Shr = true
+is_shift Sar = true
+is_shift Rol = true
+is_shift Ror = true
+is_shift op = false
+
+sar_word : (w : Width) (z : ℤ) → word_of w (shifted_down z 0) ≡ word_of w z
+sar_word w (pos n) = let e : n / 2 ^ 0 ≡ n = omega arith in ap (λ k. k % 2 ^ bits_of w) e
+sar_word w (negsuc n) = let e : n / 2 ^ 0 ≡ n = omega arith in ap (λ k. 2 ^ bits_of w - 1 - k % 2 ^ bits_of w) e
+
+sar_zero : (w : Width) (x : ℕ) → x < 2 ^ bits_of w → apply_op Sar w x 0 ≡ x
+unfolding apply_op formula
+sar_zero B8 x less = sar_word B8 (signed_of B8 (cut B8 x)) ∙ word_of-signed_of B8 (cut B8 x) ∙ cut-cut B8 x ∙ cut_fit B8 x less
+sar_zero B16 x less = sar_word B16 (signed_of B16 (cut B16 x)) ∙ word_of-signed_of B16 (cut B16 x) ∙ cut-cut B16 x ∙ cut_fit B16 x less
+sar_zero B32 x less = sar_word B32 (signed_of B32 (cut B32 x)) ∙ word_of-signed_of B32 (cut B32 x) ∙ cut-cut B32 x ∙ cut_fit B32 x less
+
+-- nothing is shifted
+unmoved : (op : Op) (w : Width) (x : ℕ) → is_shift op ≡ true → x < 2 ^ bits_of w → apply_op op w x 0 ≡ x
+unfolding apply_op formula
+unmoved Shl B8 x e less = omega arith
+unmoved Shl B16 x e less = omega arith
+unmoved Shl B32 x e less = omega arith
+unmoved Shr B8 x e less = omega arith
+unmoved Shr B16 x e less = omega arith
+unmoved Shr B32 x e less = omega arith
+unmoved Sar w x e less = sar_zero w x less
+unmoved Rol B8 x e less = omega arith
+unmoved Rol B16 x e less = omega arith
+unmoved Rol B32 x e less = omega arith
+unmoved Ror B8 x e less = omega arith
+unmoved Ror B16 x e less = omega arith
+unmoved Ror B32 x e less = omega arith
+unmoved op w x e less = cc
+
+-- ---- a register that is written with what it has
+
+itself : {V : Type 0} (g : Regs V) (r k : ℕ) (v : V) → register g k ≡ v → cond (r == k) (register g r) v ≡ v
+itself g r k v e =
+    elim (r == k) as (λ b. (r == k) ≡ b → cond b (register g r) v ≡ v) [
+      | true ↦ λ same. ap (register g) (eqb-true r k same) ∙ e
+      | false ↦ λ other. refl
+    ] refl
+
+same_registers : {V : Type 0} (g h : Regs V) → g.eax ≡ h.eax → g.ecx ≡ h.ecx → g.edx ≡ h.edx → g.ebx ≡ h.ebx → g.esp ≡ h.esp → g.ebp ≡ h.ebp → g.esi ≡ h.esi → g.edi ≡ h.edi → g ≡ h
+same_registers {V} g h eax ecx edx ebx esp ebp esi edi =
+    ap (λ (v : V). record g { eax = v }) eax ∙ ap (λ (v : V). record g { eax = h.eax; ecx = v }) ecx ∙ ap (λ (v : V). record g { eax = h.eax; ecx = h.ecx; edx = v }) edx
+    ∙ ap (λ (v : V). record g { eax = h.eax; ecx = h.ecx; edx = h.edx; ebx = v }) ebx ∙ ap (λ (v : V). record h { esp = v; ebp = g.ebp; esi = g.esi; edi = g.edi }) esp
+    ∙ ap (λ (v : V). record h { ebp = v; esi = g.esi; edi = g.edi }) ebp ∙ ap (λ (v : V). record h { esi = v; edi = g.edi }) esi ∙ ap (λ (v : V). record h { edi = v }) edi
+
+register_itself : (g : Regs ℕ) (r : ℕ) → with_register g r (register g r) ≡ g
+unfolding with_register
+register_itself g r =
+    same_registers _ g (itself g r 0 g.eax (unfold register in refl)) (itself g r 1 g.ecx (unfold register in refl)) (itself g r 2 g.edx (unfold register in refl)) (itself g r 3 g.ebx (unfold register in refl))
+    (itself g r 4 g.esp (unfold register in refl)) (itself g r 5 g.ebp (unfold register in refl)) (itself g r 6 g.esi (unfold register in refl)) (itself g r 7 g.edi (unfold register in refl))
+
+written_itself : (m : MachineState) (r v : ℕ) → v ≡ register_of r m → with_register_of r v m ≡ m
+unfolding register_of with_register_of
+written_itself m r v e =
+    ap (λ n. record m { registers = with_register m.registers (r % 8) n }) e ∙ ap (λ g. record m { registers = g }) (register_itself m.registers (r % 8))
+
+byte_itself : (r a : ℕ) → a < 2 ^ 32 → apply_op (put_byte_part r) B32 a (apply_op (byte_part r) B32 a 0) ≡ a
+byte_itself r a less =
+    elim (nat_lt r 4) as (λ b. apply_op (if b then PutLow8 else PutHigh8) B32 a (apply_op (if b then Low8 else High8) B32 a 0) ≡ a) [
+      | true ↦ put_low8-low8 a ∙ cut_fit B32 a less
+      | false ↦ put_high8-high8 a ∙ cut_fit B32 a less
+    ]
+
+part_itself : (w : Width) (r : ℕ) (m : MachineState) → ((k : ℕ) → register_of k m < 2 ^ 32) → with_part_of w r (part_of w r m) m ≡ m
+part_itself B8 r m fits = written_itself m (r % 4) _ (byte_itself r (register_of (r % 4) m) (fits (r % 4)))
+part_itself B16 r m fits = written_itself m r _ (put_low16-low16 (register_of r m) ∙ cut_fit B32 (register_of r m) (fits r))
+part_itself B32 r m fits = written_itself m r _ refl
+
+-- a count is a byte
+pub count_is_value : (o : Operand) → is_count o ≡ true → is_value o ≡ true
+count_is_value (Register B8 r) e = refl
+count_is_value (Register B16 r) e = cc
+count_is_value (Register B32 r) e = cc
+count_is_value (Number B8 n) e = refl
+count_is_value (Number B16 n) e = cc
+count_is_value (Number B32 n) e = cc
+count_is_value (Memory w a) e = cc
+count_is_value (Offset o) e = cc
+
+count_width : (o : Operand) → is_count o ≡ true → width_of o ≡ B8
+count_width (Register B8 r) e = refl
+count_width (Register B16 r) e = cc
+count_width (Register B32 r) e = cc
+count_width (Number B8 n) e = refl
+count_width (Number B16 n) e = cc
+count_width (Number B32 n) e = cc
+count_width (Memory w a) e = cc
+count_width (Offset o) e = cc
+
+module _ {D : Type 0} (d : Values D) (l : IsLawful d) (image : Image) (p : Places) (start : MachineState) (blocks : List Counted) where
+  -- the flags of a count of 0 stay
+  abbrev stays : ℕ → MachineState → Ended
+  stays next n = Next (at_address next (with_flags_of n.flags n))
+
+  unshifted_ends : (w : Width) (to : Operand) (a : D) (x next : ℕ) (q : Path D) (m : MachineState) → All IsFixedCode image.segments → next < 2 ^ 32 → has_place w to ≡ true
+      → S d l image p start blocks w a x → IsRead d l image p start blocks to m x → H d l image p start blocks q m
+      → E d l image p start blocks (unshifted d image to a next q) (writing_of m to x (stays next))
+  unshifted_ends w (Register z r) a x next q m fixed less place s read h =
+      let P : MachineState → Type 0 = λ n. E d l image p start blocks (lands next q) (Next (at_address next n)) in
+      let same = ap (λ v. with_part_of z r v m) read ∙ part_itself z r m (λ k. (register_stands d l image p start blocks k q m h).fits) in
+      subst P (sym same) (lands_ends d l image p start blocks next q m less h)
+  unshifted_ends w (Memory z b) a x next q m fixed less place s read h =
+      let parts = and_parts true (is_width z w) place in
+      writing_ends d l image p start blocks (Memory z b) a x q m _ _ fixed refl (subst (λ v. S d l image p start blocks v a x) (sym (same_width z w place)) s) h
+      (λ r n holds same. lands_ends d l image p start blocks next r n less holds)
+  unshifted_ends w (Number z n) a x next q m fixed less place s read h = cc
+  unshifted_ends w (Offset o) a x next q m fixed less place s read h = cc
+
+  -- by a value that stands for y
+  shifted_stands : (op : Op) (w : Width) (a : D) (x : ℕ) (o : Option ℕ) (y : ℕ) (q : Path D) (m : MachineState) → ((n : ℕ) → o ≡ Some n → y ≡ n) → S d l image p start blocks w a x → H d l image p start blocks q m
+      → S d l image p start blocks w (shifted d image.align op w a o) (apply_op op w x (y % 32))
+  shifted_stands op w a x None y q m tells s h = any_known d l image p start blocks w _ q m h (apply-lt op w x (y % 32))
+  shifted_stands op w a x (Some n) y q m tells s h =
+      subst (λ k. S d l image p start blocks w (d.eval op w a (d.number (n % 32)) image.align) (apply_op op w x (k % 32))) (sym (tells n refl))
+      (eval_stands d l image p start blocks op w a _ x (n % 32) q m h s (number_known d l image p start blocks w (n % 32) q m h (count_fits w n)))
+
+  -- a count that is 0 modulo 32 is known
+  none_shifted : (o : Option ℕ) (y : ℕ) → ((n : ℕ) → o ≡ Some n → y ≡ n) → is_no_shift o ≡ true → y % 32 ≡ 0
+  none_shifted None y tells e = cc
+  none_shifted (Some n) y tells e = ap (λ k. k % 32) (tells n refl) ∙ eqb-true (n % 32) 0 e
+
+  flags_stand : (rule : FlagRule) (w : Width) (a b r : D) (x y z : ℕ) (q : Path D) (m : MachineState) (f : Flags) (choice : Choice) → is_counted rule ≡ true
+      → S d l image p start blocks w a x → S d l image p start blocks B8 b y → S d l image p start blocks w r z → H d l image p start blocks q m
+      → FlagsStand (ruled_truths d image.align rule w a b r q.state.flags) (shifted_flags rule w x (y % 32) z choice m.flags)
+  flags_stand rule w a b r x y z q m f choice is s t value h =
+      let fits = h.describes.fits in
+      let P : ℕ → Type 0 = λ k. FlagsStand (ruled_truths d k rule w a b r q.state.flags) (shifted_flags rule w x (y % 32) z choice m.flags) in
+      subst P fits.align (counted_stand d l p fits.valid rule w a b r x y z q.state.flags m.flags choice is s.stands t.stands (record { stands = value.stands; fits = value.fits }) h.describes.flags)
+
+  shift_by_ends : (op : Op) (rule : FlagRule) (w : Width) (to : Operand) (a v : D) (x y next : ℕ) (choice : Choice) (q : Path D) (m : MachineState) → All IsFixedCode image.segments → next < 2 ^ 32
+      → is_shift op ≡ true → is_counted rule ≡ true → has_place w to ≡ true → S d l image p start blocks w a x → IsRead d l image p start blocks to m x → S d l image p start blocks B8 v y → H d l image p start blocks q m
+      → E d l image p start blocks (shift_by d image op rule w to a v next q) (shift_by_of op rule w to x (y % 32) next choice m)
+  shift_by_ends op rule w to a v x y next choice q m fixed less shifts counts place s read count h =
+      let tells = λ (n : ℕ) (e : d.number_of v ≡ Some n). l.number_of_alone v n p y h.describes.fits.valid e count.stands in
+      let moved : Expanded D = writing d image q to (shifted d image.align op w a (d.number_of v)) (λ r. flagged d image rule w a v (shifted d image.align op w a (d.number_of v)) next r) in
+      elim (is_no_shift (d.number_of v)) as (λ b. is_no_shift (d.number_of v) ≡ b → E d l image p start blocks (cond b (unshifted d image to a next q) moved) (shift_by_of op rule w to x (y % 32) next choice m)) [
+        | true ↦ λ e.
+            let P : ℕ → Type 0 = λ c. E d l image p start blocks (unshifted d image to a next q) (shift_by_of op rule w to x c next choice m) in
+            let Q : ℕ → Type 0 = λ z. E d l image p start blocks (unshifted d image to a next q) (writing_of m to z (stays next)) in
+            subst P (sym (none_shifted (d.number_of v) y tells e)) (subst Q (sym (unmoved op w x shifts s.fits)) (unshifted_ends w to a x next q m fixed less place s read h))
+        | false ↦ λ e.
+            let parts = and_parts (is_place to) (is_width (width_of to) w) place in
+            let value = shifted_stands op w a x (d.number_of v) y q m tells s h in
+            let own = subst (λ z. S d l image p start blocks z (shifted d image.align op w a (d.number_of v)) (apply_op op w x (y % 32))) (sym (same_width (width_of to) w parts.1)) value in
+            writing_ends d l image p start blocks to _ _ q m _ _ fixed parts.0 own h
+            (λ r n holds same. lands_ends d l image p start blocks next _ _ less
+            (with_flags_holds d l image p start blocks _ _ r n (flags_stand rule w a v _ x y (apply_op op w x (y % 32)) r n n.flags choice counts s count value holds) holds))
+      ] refl
+
+  pub shift_ends : (op : Op) (rule : FlagRule) (w : Width) (to count : Operand) (next : ℕ) (choice : Choice) (q : Path D) (m : MachineState) → All IsFixedCode image.segments → next < 2 ^ 32
+      → is_shift op ≡ true → is_counted rule ≡ true → has_place w to ≡ true → is_count count ≡ true → H d l image p start blocks q m
+      → E d l image p start blocks (shift d image op rule w to count next q) (shift_of op rule w to count next choice m)
+  shift_ends op rule w to count next choice q m fixed less shifts counts place byte h =
+      let parts = and_parts (is_place to) (is_width (width_of to) w) place in
+      reading_ends d l image p start blocks to q m _ _ (place_is_value to parts.0) h (λ a x s read.
+      reading_ends d l image p start blocks count q m _ _ (count_is_value count byte) h (λ v y t also.
+      shift_by_ends op rule w to a v x y next choice q m fixed less shifts counts place
+      (subst (λ z. S d l image p start blocks z a x) (same_width (width_of to) w parts.1) s) read (subst (λ z. S d l image p start blocks z v y) (count_width count byte) t) h))
