@@ -73,13 +73,13 @@ module _ {D : Type 0} (d : Values D) (image : Image) (blocks : List Counted) (in
     pub well : IsWellState d q.state
     pub blocks_same : q.state.parts.blocks ≡ blocks
 
-  abbrev Keeps : StoredPath D → Type 0
+  abbrev pub Keeps : StoredPath D → Type 0
   Keeps (Done, r) = IsKeptWell r
   Keeps (Faults, r) = ⊤
   Keeps (Stopped c, r) = ⊤
 
   -- other parts with the same counts, and the note or none
-  parts-well : (q : Path D) (g : PartsHeld D) (note : Option Note) (test : Note → Bool) (ws : List Written) → IsKeptWell q → IsWell d g → g.blocks ≡ q.state.parts.blocks → IsNoteOf q.state.note test note
+  pub parts-well : (q : Path D) (g : PartsHeld D) (note : Option Note) (test : Note → Bool) (ws : List Written) → IsKeptWell q → IsWell d g → g.blocks ≡ q.state.parts.blocks → IsNoteOf q.state.note test note
       → IsKeptWell (record { state = record (q.state) { parts = g; note = note }; writes = ws })
   parts-well q g note test ws h well same is = record {
     well = record {
@@ -131,7 +131,7 @@ module _ {D : Type 0} (d : Values D) (image : Image) (blocks : List Counted) (in
       let rest = spans-well ss (after_span h s) (λ x i. mapped x (inr i)) first in
       record { well = rest.well; blocks_kept = rest.blocks_kept ∙ inside-blocks d h Loaded (pos s.low) last }
 
-  keeps-among : (q : Path D) (low size : ℕ) → IsKeptWell q → Keeps (stored_among d image low size q)
+  pub keeps-among : (q : Path D) (low size : ℕ) → IsKeptWell q → Keeps (stored_among d image low size q)
   keeps-among q low size h =
       let spans = runs_of (may_write image.segments) low size in
       let go = with_spans spans q in
@@ -147,7 +147,7 @@ module _ {D : Type 0} (d : Values D) (image : Image) (blocks : List Counted) (in
 
   -- ---- regions
 
-  between-inside : (r : Region) (low end : ℤ) → HasCount blocks (block_of r) → low_of r ≤ℤ low → end ≤ℤ high_of r → low ≤ℤ end → IsInside (interval_between (In r) low end)
+  pub between-inside : (r : Region) (low end : ℤ) → HasCount blocks (block_of r) → low_of r ≤ℤ low → end ≤ℤ high_of r → low ≤ℤ end → IsInside (interval_between (In r) low end)
   between-inside r low end counted above below ordered = record {
     low = above;
     end = below;
@@ -173,7 +173,7 @@ module _ {D : Type 0} (d : Values D) (image : Image) (blocks : List Counted) (in
         }
       ] refl
 
-  keeps-in : (q : Path D) (r : Region) (low high : ℤ) (w : Width) (u : D) → IsKeptWell q → HasCount blocks (block_of r) → MayHold d blocks w u → Keeps (stored_in d image r low high w u q)
+  pub keeps-in : (q : Path D) (r : Region) (low high : ℤ) (w : Width) (u : D) → IsKeptWell q → HasCount blocks (block_of r) → MayHold d blocks w u → Keeps (stored_in d image r low high w u q)
   keeps-in q r low high w u h counted k =
       let end = high +ℤ pos (bytes_of w) in
       elim (lies_in_extent r low end) as (λ b. lies_in_extent r low end ≡ b → Keeps (cond b (Done, with_region_parts r low end (region_parts d image r low high w u q.state.parts) q) (Stopped (cause_outside r), q))) [

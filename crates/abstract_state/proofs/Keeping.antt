@@ -1,5 +1,5 @@
 -- Each change keeps what is always so of a state.
-use Rattle.std.proofs.Common.{◌≡◌, ℕ, Bool, true, false, cond, List, map, Option, Some, None, refl, sym, subst, arith, ℤ, pos, ◌+ℤ◌, ◌≤ℤ◌, ◌<ℤ◌}
+use Rattle.std.proofs.Common.{◌≡◌, ℕ, Bool, true, false, cond, not, List, map, Option, Some, None, refl, sym, subst, arith, ℤ, pos, ◌+ℤ◌, ◌≤ℤ◌, ◌<ℤ◌}
 use Rattle.std.specs.Prelude.{◌==◌, ◌^◌, int_le, int_lt, neg_ℤ}
 use Rattle.std.proofs.lemmas.Bool.{and_parts}
 use Rattle.std.specs.Option.{ForSome}
@@ -18,11 +18,11 @@ use Rattle.partitioned_memory.specs.declared.area.Area.{Area}
 use Rattle.partitioned_memory.specs.declared.area.Area.TheVariants.{In}
 use Rattle.partitioned_memory.specs.declared.fact.Counted.{Counted}
 use Rattle.partitioned_memory.specs.Areas.{IsInside, block_in, interval_at, interval_between, interval_to}
-use Rattle.partitioned_memory.specs.Held.{PartsHeld, after_block, after_exact, after_inside, after_interval, count_before, counted_again, counted_more, is_counted, one_block}
+use Rattle.partitioned_memory.specs.Held.{PartsHeld, after_block, after_exact, after_forgetting, after_inside, after_interval, count_before, counted_again, counted_more, is_counted, is_stack_below, one_block}
 use Rattle.partitioned_memory.specs.Lists.{Every, placed}
 use Rattle.partitioned_memory.specs.Well.{HasCount, IsWell, MayHold}
 use Rattle.partitioned_memory.proofs.ListLaws.{Every-map, Every-placed}
-use Rattle.partitioned_memory.proofs.Kept.{HasCount-more, block-kept, exact-kept, inside-kept}
+use Rattle.partitioned_memory.proofs.Kept.{HasCount-more, block-kept, exact-kept, filtered-kept, inside-kept}
 use Rattle.partitioned_memory.proofs.Orders.{int_le-true, int_lt-false}
 use Rattle.abstract_state.specs.Accessing.{lies_in_extent}
 use Rattle.abstract_state.specs.declared.flags.Truths.{Truths}
@@ -113,6 +113,12 @@ module _ {D : Type 0} (d : Values D) where
   inside-state g t n h new a low high inside counted e k =
       subst (λ (x : PartsHeld D). IsWellState d (known g t n x)) (sym e) (parts-kept g t n h (after_inside a low high h) (inside-well h a low high inside counted k.parts) (inside-blocks h a low high) k)
 
+  -- some facts of the stack forgotten
+  pub forget-state : (g : Regs D) (t : Truths) (n : Option Note) (h new : PartsHeld D) (high : ℤ) → new ≡ after_forgetting high h → IsWellState d (record { regs = g; flags = t; note = n; parts = h }) → IsWellState d (record { regs = g; flags = t; note = n; parts = new })
+  forget-state g t n h new high e k =
+      subst (λ (x : PartsHeld D). IsWellState d (known g t n x)) (sym e)
+      (parts-kept g t n h (after_forgetting high h) (filtered-kept d (λ f. not (is_stack_below high f)) h.facts _ h.dirty h.blocks k.parts refl) refl k)
+
   -- a further block of a region: what had a count has one
   pub block-state : (g : Regs D) (t : Truths) (n : Option Note) (h new : PartsHeld D) (r : Region) → has_one_base r ≡ false → IsSmall r → new ≡ after_block r h → IsWellState d (record { regs = g; flags = t; note = n; parts = h }) → IsWellState d (record { regs = g; flags = t; note = n; parts = new })
   block-state g t n h new r block own e k =
@@ -160,7 +166,5 @@ width-ordered low B8 = omega (arith, ints)
 width-ordered low B16 = omega (arith, ints)
 width-ordered low B32 = omega (arith, ints)
 
-pub some-ordered : (low high : ℤ) (w : Width) → low ≤ℤ high → low ≤ℤ (high +ℤ pos (bytes_of w))
-some-ordered low high B8 h = omega (arith, ints)
-some-ordered low high B16 h = omega (arith, ints)
-some-ordered low high B32 h = omega (arith, ints)
+pub some-ordered : (low high : ℤ) (n : ℕ) → low ≤ℤ high → low ≤ℤ (high +ℤ pos n)
+some-ordered low high n h = omega (arith, ints)

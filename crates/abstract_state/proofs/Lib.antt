@@ -5,6 +5,7 @@ pub mod BridgeFits
 pub mod BridgeParts
 pub mod Bridge
 pub mod BridgeKeeping
+pub mod BridgeAny
 pub mod Covering
 pub mod Raising
 pub mod Beginning
@@ -13,3 +14,5 @@ pub mod Starting
 pub mod Putting
 pub mod Counting
 pub mod Storing
+pub mod AnyBytes
+pub mod Seeing

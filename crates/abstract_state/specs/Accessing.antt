@@ -116,6 +116,13 @@ cause_outside (regions.Block site size zeroed) = causes.Block
 abbrev pub StoredPath : Type 0 → Type 0
 StoredPath D = Stored × Path D
 
+-- a write of n bytes of which nothing is known somewhere in a region, from one offset on or from one of some
+abbrev pub any_put : {D : Type 0} → Region → ℤ → ℤ → ℕ → Path D → StoredPath D
+any_put r low high n p =
+    if lies_in_extent r low (high +ℤ pos n)
+    then (Done, with_region_parts r low (high +ℤ pos n) (after_inside (areas.In r) low ((high +ℤ pos n) -ℤ pos 1) p.state.parts) p)
+    else (Stopped (cause_outside r), p)
+
 module _ {D : Type 0} (d : Values D) where
   -- the value put at one address of the image
   abbrev pub word_put : ℕ → Width → D → Path D → Path D
@@ -175,6 +182,18 @@ module _ {D : Type 0} (d : Values D) (image : Image) where
   -- a store of a value at an address of which a value is known
   unfoldable pub stored : Width → D → D → Path D → StoredPath D
   stored w address v p = stored_by (d.reach address) w v p
+
+  abbrev pub any_put_in : Region → ℤ → ℤ → ℕ → Path D → StoredPath D
+  any_put_in = any_put
+
+  abbrev pub any_stored_by : Reach → ℕ → Path D → StoredPath D
+  any_stored_by (Number low high) n p = stored_among low ((high + n) - low) p
+  any_stored_by (Place r low high) n p = any_put_in r low high n p
+  any_stored_by Anywhere n p = (Stopped causes.Store, p)
+
+  -- a write of n bytes of which nothing is known, n at least 1, from an address on of which a value is known; it adds no fact
+  unfoldable pub any_stored : D → ℕ → Path D → StoredPath D
+  any_stored address n p = any_stored_by (d.reach address) n p
 
   abbrev pub after_store : StoredPath D → (Path D → Expanded D) → Expanded D
   after_store (Done, p) k = k p

@@ -2,7 +2,7 @@
 use Rattle.std.specs.Prelude.{ℕ, ◌≡◌, true, false, List, map, Option, Some, None, ⊤, unwrap_or, All, AllPairs, Contains, pos, ◌+ℤ◌, ◌-ℤ◌}
 use Rattle.bit_words.specs.declared.width.Width.TheVariants.{B32}
 use Rattle.bit_words.specs.Flags.{difference_flags}
-use Rattle.memory_map.specs.Range.{Mapping, mapping_of, byte_at, AreApart, HasBytes, IsInUserSpace}
+use Rattle.memory_map.specs.Range.{Range, Mapping, mapping_of, byte_at, AreApart, HasBytes, IsInUserSpace}
 use Rattle.memory_map.specs.Image.{Image}
 use Rattle.memory_map.specs.State.{MachineState, Flags, HasWords, memory}
 use Rattle.memory_map.specs.Registers.{register}
@@ -36,6 +36,10 @@ pub record IsMappedAt (mappings : List Mapping) (r : Region) (b : ℕ) : Type 0 
 -- what is mapped, without its bytes
 abbrev pub mappings : MachineState → List Mapping
 mappings m = map mapping_of (memory m)
+
+-- what may be executed may not be written
+abbrev pub IsFixed : List Range → Type 0
+IsFixed ranges = All (λ r. r.execute ≡ true → r.write ≡ false) ranges
 
 -- the places of a run are those of a machine state: its windows and blocks lie there, and apart from the segments, which are mapped with their permissions
 pub record Fits (image : Image) (p : Places) (m : MachineState) : Type 0 where

@@ -8,4 +8,5 @@ pub mod Expanding
 pub mod Accessing
 pub mod Refining
 pub mod Widening
+pub mod Counts
 pub mod Laws

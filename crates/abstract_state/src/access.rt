@@ -31,24 +31,31 @@ pub(crate) fn is_in_fault_zone(a: u64, n: u64) -> bool
     a + n <= u64::from(USER_LOW) || u64::from(USER_END) <= a
 }
 
+// The offset after the last of `n` bytes at `high`.
+pub(crate) fn end_of(high: i64, n: u32) -> i128
+    ensures { result ≡ high +ℤ pos n }
+{
+    i128::from(high) + i128::from(n)
+}
+
 // The offset after the last byte of an access at `high`.
 pub(crate) fn end_after(high: i64, w: Width) -> i128
     ensures { result ≡ high +ℤ pos (bytes_of w) }
 {
-    i128::from(high) + i128::from(w.bytes())
+    end_of(high, w.bytes())
 }
 
-// The offset of that byte.
-fn last_of(high: i64, w: Width) -> i64
+// The offset of the last of `n` bytes at `high`.
+fn last_of(high: i64, n: u32) -> i64
     requires greatest { high ≤ℤ pos (2 ^ 32) }
     requires least { neg_ℤ (pos (2 ^ 32)) ≤ℤ high }
-    ensures { result ≡ (high +ℤ pos (bytes_of w)) -ℤ pos 1 }
+    ensures { result ≡ (high +ℤ pos n) -ℤ pos 1 }
 {
-    high + i64::from(w.bytes()) - 1
+    high + i64::from(n) - 1
 }
 
 // Whether the bytes from one offset on and below another are bytes of a region.
-fn lies_in_extent(region: Region, low: i64, end: i128) -> bool
+pub(crate) fn lies_in_extent(region: Region, low: i64, end: i128) -> bool
     ensures { result ≡ lies_in_extent region low end }
 {
     let (least, limit) = region.extent();
@@ -147,7 +154,8 @@ impl<D: Domain> State<D> {
         }
     }
 
-    fn load_in(&self, image: &Image, region: Region, low: i64, w: Width) -> D
+    /// A load at one place of a region: what is known of the bytes there, and any where some are not the region's.
+    pub fn load_in(&self, image: &Image, region: Region, low: i64, w: Width) -> D
         ensures value { result ≡ loaded_in (values_of D.Domain.own D.eq) image.now region low w self.now }
         ensures holds { MayHold (values_of D.Domain.own D.eq) self.now.parts.blocks w result }
     {
@@ -185,22 +193,22 @@ impl<D: Domain> State<D> {
         self.write_exact(Area::In(region), low, w, v)
     }
 
-    // Any bytes stored in a region by an access at an offset from `low` to `high`.
+    // Any bytes stored in a region by an access to `n` bytes at an offset from `low` to `high`.
     pub(crate) fn write_some_in(
         &mut self,
         region: Region,
         low: i64,
         high: i64,
-        w: Width,
+        n: u32,
     ) -> Result<(), NoMemory>
-        requires inside { lies_in_extent region low (high +ℤ pos (bytes_of w)) ≡ true }
+        requires inside { lies_in_extent region low (high +ℤ pos n) ≡ true }
         requires ordered { low ≤ℤ high }
         requires greatest { high ≤ℤ pos (2 ^ 32) }
         requires least { neg_ℤ (pos (2 ^ 32)) ≤ℤ high }
         requires counted { HasCount self.old.parts.blocks (block_in (Area.In region)) }
-        ensures { OnOk result (self.new ≡ with_parts (after_inside (Area.In region) low ((high +ℤ pos (bytes_of w)) -ℤ pos 1) self.old.parts) self.old) }
+        ensures { OnOk result (self.new ≡ with_parts (after_inside (Area.In region) low ((high +ℤ pos n) -ℤ pos 1) self.old.parts) self.old) }
     {
         let _bounds = Area::In(region).bounds();
-        self.write_inside(Area::In(region), low, last_of(high, w))
+        self.write_inside(Area::In(region), low, last_of(high, n))
     }
 }

@@ -9,6 +9,7 @@ mod expansion;
 mod flags;
 mod laws;
 mod note;
+mod pair_index;
 mod path;
 mod refining;
 mod registers;
@@ -17,6 +18,7 @@ mod state;
 mod stored;
 mod truth;
 mod widening;
+mod writing;
 
 pub use expansion::Expansion;
 pub use flags::Truths;

@@ -1,10 +1,7 @@
 ghost use Rattle.std.specs.Prelude.{◌≡◌, ◌&&◌, pos, ◌+ℤ◌, int_lt};
-ghost use Rattle.bit_words.specs.Width.{bytes_of};
 ghost use Rattle.abstract_state.specs.Notes.{compared_with, covers_note, is_in_bytes, is_of_register, note_unless, same_note};
 
-use crate::access::end_after;
 use address_regions::Region;
-use bit_words::Width;
 use partitioned_memory::Area;
 
 /// The comparison that gave the flags: of a register or of a word of the stack with a number.
@@ -33,16 +30,15 @@ impl Note {
         }
     }
 
-    // Whether an access at an offset of a region from `low` to `high` may touch the noted word.
+    // Whether the noted word has a byte of a region from one offset on and below another.
     #[tactic(auto, unfolding(partitioned_memory::specs::Areas::same_area))]
-    fn is_in_bytes(self, region: Region, low: i64, high: i64, w: Width) -> bool
-        ensures { result ≡ is_in_bytes (Area.In region) low (high +ℤ pos (bytes_of w)) self }
+    fn is_in_bytes(self, region: Region, low: i64, end: i128) -> bool
+        ensures { result ≡ is_in_bytes (Area.In region) low end self }
     {
         match self {
             Note::Register(_, _) => false,
             Note::Word(o, _) => {
-                Area::In(region) == Area::In(Region::Stack)
-                    && meets_word(o, low, end_after(high, w))
+                Area::In(region) == Area::In(Region::Stack) && meets_word(o, low, end)
             }
         }
     }
@@ -88,19 +84,13 @@ pub(crate) fn without_register(note: Option<Note>, r: u8) -> Option<Note>
     }
 }
 
-/// The note, unless an access at an offset of a region from `low` to `high` may touch its word.
-pub(crate) fn without_bytes(
-    note: Option<Note>,
-    region: Region,
-    low: i64,
-    high: i64,
-    w: Width,
-) -> Option<Note>
-    ensures { result ≡ note_unless (is_in_bytes (Area.In region) low (high +ℤ pos (bytes_of w))) note }
+/// The note, unless its word has a byte of a region from one offset on and below another.
+pub(crate) fn without_bytes(note: Option<Note>, region: Region, low: i64, end: i128) -> Option<Note>
+    ensures { result ≡ note_unless (is_in_bytes (Area.In region) low end) note }
 {
     match note {
         Some(n) => {
-            if n.is_in_bytes(region, low, high, w) {
+            if n.is_in_bytes(region, low, end) {
                 None
             } else {
                 Some(n)

@@ -12,7 +12,7 @@ ghost use Rattle.abstract_state.specs.Accessing.{cause_outside, lies_in_extent, 
 ghost use Rattle.abstract_state.specs.State.{with_parts};
 ghost use Rattle.abstract_state.specs.Expanding.{ended, lands, starts, stopped};
 
-use crate::access::{is_in_fault_zone, lies_in_region, touches_fault_zone};
+use crate::access::{end_after, is_in_fault_zone, lies_in_region, touches_fault_zone};
 use crate::expansion::{Expansion, record_write};
 use crate::state::State;
 use crate::stored::Stored;
@@ -52,7 +52,7 @@ fn writable_runs(alloc: Global, segments: &Segments, a: u32, n: u64) -> Result<R
 }
 
 // Why a location is left open by a store that is not wholly in its region.
-fn cause_outside(region: Region) -> Cause
+pub(crate) fn cause_outside(region: Region) -> Cause
     ensures { result ≡ cause_outside region }
 {
     match region {
@@ -186,7 +186,9 @@ impl<D: Domain> Path<D> {
         record_write(&mut self.writes, a, w.bytes())
     }
 
-    fn store_in(
+    /// A store of a value at one place of a region, or at one from an offset to another: where the bytes lie in the region it is done, by which
+    /// those of one place get the value and those of several become unknown; else it is a cause, and the path is as it was.
+    pub fn store_in(
         &mut self,
         region: Region,
         low: i32,
@@ -202,7 +204,7 @@ impl<D: Domain> Path<D> {
         if lies_in_region(region, i64::from(low), i64::from(high), w) {
             self.write_region(region, low, high, w, v)?;
             self.state
-                .drop_note_in(region, i64::from(low), i64::from(high), w);
+                .drop_note_in(region, i64::from(low), end_after(i64::from(high), w));
             Ok(Stored::Done)
         } else {
             Ok(Stored::Stopped(cause_outside(region)))
@@ -227,7 +229,7 @@ impl<D: Domain> Path<D> {
             self.state.write_word_in(region, i64::from(low), w, v)
         } else {
             self.state
-                .write_some_in(region, i64::from(low), i64::from(high), w)
+                .write_some_in(region, i64::from(low), i64::from(high), w.bytes())
         }
     }
 
@@ -252,7 +254,13 @@ impl<D: Domain> Path<D> {
         Ok(())
     }
 
-    fn store_among(&mut self, image: &Image, a: u32, size: u64) -> Result<Stored, NoMemory>
+    // A store of any bytes somewhere among `size` bytes from an address on.
+    pub(crate) fn store_among(
+        &mut self,
+        image: &Image,
+        a: u32,
+        size: u64,
+    ) -> Result<Stored, NoMemory>
         requires { a + size < 2 ^ 34 }
         ensures { IfOk result (λ done. (done, self.new) ≡ stored_among (values_of D.Domain.own D.eq) image.now a size self.old) }
     {

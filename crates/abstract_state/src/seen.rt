@@ -3,6 +3,7 @@ ghost use Rattle.std.specs.List.{list_any};
 ghost use Rattle.domain_laws.specs.Made.{values_of};
 ghost use Rattle.abstract_state.specs.Widening.{IsPartlySeen, held, held_registers, holder_of, is_pair, is_rival, same_holder, seen_with, stays, widened_value, with_pair, with_pairs};
 
+use crate::pair_index::PairIndex;
 use crate::state::State;
 use bit_words::{NoMemory, Width};
 use domain_laws::Domain;
@@ -21,7 +22,7 @@ pub enum Holder {
 
 impl Holder {
     #[tactic(auto, unfolding(partitioned_memory::specs::Areas::same_area))]
-    fn is(self, other: Holder) -> bool
+    pub(crate) fn is(self, other: Holder) -> bool
         ensures { result ≡ same_holder self other }
     {
         match (self, other) {
@@ -77,19 +78,59 @@ fn held<D: Domain>(alloc: Global, s: &State<D>) -> Result<Vec<(Holder, D)>, NoMe
     Ok(pairs)
 }
 
-/// The values that states at one location hold, each with what holds it, once, in the order in which they were first seen.
-#[derive(Drop)]
-pub struct Seen<D> {
-    pairs: Vec<(Holder, D)>,
+// Whether a value was seen there, among a few pairs.
+fn has_among<D: Domain>(few: &[(Holder, D)], holder: Holder, value: D) -> bool
+    ensures { result ≡ list_any (is_pair (values_of D.Domain.own D.eq) holder value) few.now }
+{
+    few.iter().any(|pair| holder.is(pair.0) && pair.1 == value)
 }
 
-impl<D> Model for Seen<D> {
-    ghost use Rattle.std.specs.Prelude.{List};
+// How many values of a rank were seen there, among a few pairs.
+fn rivals_among<D: Domain>(few: &[(Holder, D)], holder: Holder, rank: u8) -> usize
+    ensures { result ≡ count_by (is_rival (values_of D.Domain.own D.eq) holder rank) few.now }
+{
+    few.iter()
+        .filter(|pair| holder.is(pair.0) && pair.1.rank() == rank)
+        .count()
+}
+
+fn insert_among<D: Domain>(
+    few: &mut Vec<(Holder, D)>,
+    holder: Holder,
+    value: D,
+) -> Result<(), NoMemory>
+    ensures ok { OnOk result (few.new.items ≡ with_pair (values_of D.Domain.own D.eq) few.old.items (holder, value)) }
+    ensures err { OnErr result (few.new.items ≡ few.old.items) }
+{
+    if !has_among(few, holder, value) {
+        few.push((holder, value))?;
+    }
+    Ok(())
+}
+
+// From so many pairs on they are indexed. A location has mostly one row or two, and to make an index costs more than to walk a few pairs.
+const INDEXED: usize = 128;
+
+/// The values that states at one location hold, each with what holds it, once, in the order in which they were first seen.
+#[derive(Drop)]
+pub struct Seen<D: Domain> {
+    // The pairs, unless there is an index of them.
+    few: Vec<(Holder, D)>,
+    index: Option<PairIndex<D>>,
+}
+
+impl<D: Domain> Model for Seen<D> {
+    ghost use Rattle.std.specs.Prelude.{List, ◌≡◌, [], unwrap_or};
+    ghost use Rattle.domain_laws.specs.Made.{values_of};
     ghost use Rattle.abstract_state.specs.declared.seen.Holder.{Holder};
+    ghost use Rattle.abstract_state.specs.Widening.{with_pairs};
 
     ghost Value = { List (Holder × D) };
 
-    ghost view = { λ s. s.pairs.items };
+    ghost view = { λ s. unwrap_or s.index s.few.items };
+
+    // Each of the few stands once.
+    ghost invariant = { λ s. with_pairs (values_of D.Domain D.eq) s.few.items [] ≡ s.few.items };
 }
 
 impl<D: Domain> Seen<D> {
@@ -98,7 +139,8 @@ impl<D: Domain> Seen<D> {
         ensures { result ≡ [] }
     {
         Seen {
-            pairs: Vec::new(alloc),
+            few: Vec::new(alloc),
+            index: None,
         }
     }
 
@@ -108,9 +150,22 @@ impl<D: Domain> Seen<D> {
         ensures ok { OnOk result (self.new ≡ seen_with (values_of D.Domain.own D.eq) s.now self.old) }
         ensures err { OnErr result (IsPartlySeen (values_of D.Domain.own D.eq) s.now self.old self.new) }
     {
-        let alloc = *self.pairs.allocator();
+        let alloc = *self.few.allocator();
+        self.index_many(alloc)?;
         let pairs = held(alloc, s)?;
         self.insert_all(&pairs)
+    }
+
+    // The pairs go into an index where there are many.
+    fn index_many(&mut self, alloc: Global) -> Result<(), NoMemory>
+        ensures { self.new ≡ self.old }
+    {
+        if self.index.is_none() && INDEXED <= self.few.len() {
+            let index = PairIndex::of(alloc, &self.few)?;
+            self.index = Some(index);
+            self.few = Vec::new(alloc);
+        }
+        Ok(())
     }
 
     fn insert_all(&mut self, pairs: &[(Holder, D)]) -> Result<(), NoMemory>
@@ -127,28 +182,29 @@ impl<D: Domain> Seen<D> {
         ensures ok { OnOk result (self.new ≡ with_pair (values_of D.Domain.own D.eq) self.old (holder, value)) }
         ensures err { OnErr result (self.new ≡ self.old) }
     {
-        if !self.has(holder, value) {
-            self.pairs.push((holder, value))?;
+        match &mut self.index {
+            Some(index) => index.insert(holder, value),
+            None => insert_among(&mut self.few, holder, value),
         }
-        Ok(())
     }
 
     fn has(&self, holder: Holder, value: D) -> bool
         ensures { result ≡ list_any (is_pair (values_of D.Domain.own D.eq) holder value) self.now }
     {
-        self.pairs
-            .iter()
-            .any(|pair| holder.is(pair.0) && pair.1 == value)
+        match &self.index {
+            Some(index) => index.has(holder, value),
+            None => has_among(&self.few, holder, value),
+        }
     }
 
     // How many values of a rank were seen there.
     fn rivals(&self, holder: Holder, rank: u8) -> usize
         ensures { result ≡ count_by (is_rival (values_of D.Domain.own D.eq) holder rank) self.now }
     {
-        self.pairs
-            .iter()
-            .filter(|pair| holder.is(pair.0) && pair.1.rank() == rank)
-            .count()
+        match &self.index {
+            Some(index) => index.rivals(holder, rank),
+            None => rivals_among(&self.few, holder, rank),
+        }
     }
 
     // Whether a value need not be raised.

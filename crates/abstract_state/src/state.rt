@@ -1,4 +1,4 @@
-ghost use Rattle.std.specs.Prelude.{◌≡◌, IfOk, IfSome, OnErr, OnOk, map, pos, ◌+ℤ◌, ◌≤ℤ◌, false};
+ghost use Rattle.std.specs.Prelude.{◌≡◌, IfOk, IfSome, OnErr, OnOk, map, pos, ◌≤ℤ◌, false};
 ghost use Rattle.std.specs.Option.{ForSome};
 ghost use Rattle.bit_words.specs.Width.{bytes_of};
 ghost use Rattle.memory_map.specs.Map.{range_of};
@@ -7,7 +7,7 @@ ghost use Rattle.address_regions.specs.Extents.{has_one_base};
 ghost use Rattle.domain_laws.specs.Made.{values_of};
 ghost use Rattle.domain_laws.specs.Reached.{named};
 ghost use Rattle.partitioned_memory.specs.Areas.{IsInside, block_in, interval_at, interval_to};
-ghost use Rattle.partitioned_memory.specs.Held.{after_block, after_exact, after_inside};
+ghost use Rattle.partitioned_memory.specs.Held.{after_block, after_exact, after_forgetting, after_inside};
 ghost use Rattle.partitioned_memory.specs.Well.{HasCount, MayHold};
 ghost use Rattle.abstract_state.specs.Accessing.{value_at};
 ghost use Rattle.abstract_state.specs.Notes.{IsWellNote, is_in_bytes, note_unless};
@@ -199,6 +199,15 @@ impl<D: Domain> State<D> {
         Ok(())
     }
 
+    /// The facts of the stack that have a byte below an offset go. After want of memory the state is as it was.
+    pub fn forget_below(&mut self, high: i64) -> Result<(), NoMemory>
+        ensures ok { OnOk result (self.new ≡ with_parts (after_forgetting high self.old.parts) self.old) }
+        ensures err { OnErr result (self.new ≡ self.old) }
+    {
+        self.parts.forget_below(high)?;
+        Ok(())
+    }
+
     // A value stored at one place.
     pub(crate) fn write_exact(
         &mut self,
@@ -236,10 +245,10 @@ impl<D: Domain> State<D> {
         self.regs.set(r, v);
     }
 
-    // A note of a word goes that an access at an offset of a region from `low` to `high` may touch.
-    pub(crate) fn drop_note_in(&mut self, region: Region, low: i64, high: i64, w: Width)
-        ensures { self.new ≡ with_note (note_unless (is_in_bytes (Area.In region) low (high +ℤ pos (bytes_of w))) self.old.note) self.old }
+    // A note goes of a word that has a byte of a region from one offset on and below another.
+    pub(crate) fn drop_note_in(&mut self, region: Region, low: i64, end: i128)
+        ensures { self.new ≡ with_note (note_unless (is_in_bytes (Area.In region) low end) self.old.note) self.old }
     {
-        self.note = without_bytes(self.note, region, low, high, w);
+        self.note = without_bytes(self.note, region, low, end);
     }
 }

@@ -23,7 +23,7 @@ given_accepted options words f accepted = rw accepted refl
 
 pub recover_exact : (words : List Text) (rows : List Row) → IsRead RECOVER_OPTIONS (all_pieces words) rows → recover_read rows ≡ recover_of words
 recover_exact words rows r =
-    rw (r.words, r.named (codes "k") refl, r.named (codes "budget") refl, r.named (codes "domain") refl) (given_accepted RECOVER_OPTIONS words recover_given r.accepted)
+    rw (r.words, r.named (codes "stubs") refl, r.named (codes "k") refl, r.named (codes "budget") refl, r.named (codes "domain") refl) (given_accepted RECOVER_OPTIONS words recover_given r.accepted)
 
 pub recover_refused : (words : List Text) → is_refused RECOVER_OPTIONS (all_pieces words) ≡ true → recover_of words ≡ None
 recover_refused words refused = given_refused RECOVER_OPTIONS words recover_given refused

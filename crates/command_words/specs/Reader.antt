@@ -46,7 +46,7 @@ pub record IsRead (options : List Text) (given : List Piece) (rows : List Row) :
 -- what `recover` makes of the rows
 abbrev pub recover_read : List Row → Option Command
 recover_read rows =
-    asked_with (only_name (listed WORDS rows)) (Some None)
+    asked_with (only_name (listed WORDS rows)) (file_given (listed (codes "stubs") rows))
     (option_map Recover (options_with
     (number_given K_DEFAULT K_LIMIT (listed (codes "k") rows))
     (number_given BUDGET_DEFAULT BUDGET_LIMIT (listed (codes "budget") rows))

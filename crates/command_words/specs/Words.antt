@@ -202,10 +202,11 @@ asked_with _ _ _ = None
 
 -- `recover IMAGE` with its options
 abbrev pub recover_given : List Piece → Option Command
-recover_given given = asked_with (only_name (values_of None given)) (Some None) (option_map Recover (options_of given))
+recover_given given =
+    asked_with (only_name (values_of None given)) (file_given (given_to (codes "stubs") given)) (option_map Recover (options_of given))
 
 abbrev pub RECOVER_OPTIONS : List (List ℕ)
-RECOVER_OPTIONS = codes "k" ∷ codes "budget" ∷ codes "domain" ∷ []
+RECOVER_OPTIONS = codes "stubs" ∷ codes "k" ∷ codes "budget" ∷ codes "domain" ∷ []
 
 abbrev pub recover_of : List (List ℕ) → Option Command
 recover_of words = option_and_then recover_given (words_given RECOVER_OPTIONS words)

@@ -56,7 +56,8 @@ pub fn recover_reader<'a>(alloc: Global) -> Result<Command<'a>, AllocError>
 {
     let command = Command::new(alloc, "recover")
         .disable_help_flag(true)
-        .arg(positional_words(alloc))?;
+        .arg(positional_words(alloc))?
+        .arg(option(alloc, "stubs"))?;
     with_limits(alloc, command)
 }
 

@@ -2,7 +2,7 @@ use crate::{Asked, DomainName, Options, Task, WordsFault, command};
 use std::test::Fail;
 
 // The words that are a command, each with the image and the stub file that it names, or `-` for none.
-const ACCEPTED: [(&str, &str, &str); 26] = [
+const ACCEPTED: [(&str, &str, &str); 31] = [
     ("recover a", "a", "-"),
     ("recover --k 3 a --budget=7 --domain flat", "a", "-"),
     ("recover a --k 1 --budget 1 --domain bounded", "a", "-"),
@@ -18,6 +18,11 @@ const ACCEPTED: [(&str, &str, &str); 26] = [
     ("recover --k 3 -- a", "a", "-"),
     ("recover --k=3 -- a", "a", "-"),
     ("recover recover", "recover", "-"),
+    ("recover a --stubs b", "a", "b"),
+    ("recover --stubs=b a", "a", "b"),
+    ("recover --k 3 --stubs=-b a --budget 4", "a", "-b"),
+    ("recover --stubs b -- --stubs", "--stubs", "b"),
+    ("recover --stubs=a=b a", "a", "a=b"),
     ("list a", "a", "-"),
     ("list a --stubs=b", "a", "b"),
     ("list --stubs b a", "a", "b"),
@@ -32,7 +37,7 @@ const ACCEPTED: [(&str, &str, &str); 26] = [
 ];
 
 // Words that are none.
-const REFUSED: [&str; 62] = [
+const REFUSED: [&str; 65] = [
     "recover",
     "recover a b",
     "recover -a",
@@ -71,7 +76,10 @@ const REFUSED: [&str; 62] = [
     "recover --domain interval a",
     "recover --domain Flat a",
     "recover --domain= a",
-    "recover --stubs b a",
+    "recover --stubs b --stubs b a",
+    "recover --stubs= a",
+    "recover --stubs -b a",
+    "recover a --stubs",
     "recover --text 1 a",
     "recover --help",
     "recover --help a",

@@ -75,12 +75,13 @@ fn recover_given<'a>(matches: &ArgMatches<'a>) -> Option<Asked<'a>>
     ensures { option_map asked_of result ≡ recover_read (rows_of (found_of matches.now)) }
 {
     let image = only_name(given_under(matches, "words"))?;
+    let stubs = file_given(given_under(matches, "stubs"))?;
     let k = number_given(given_under(matches, "k"), K, K_LIMIT)?;
     let budget = number_given(given_under(matches, "budget"), BUDGET, BUDGET_LIMIT)?;
     let domain = domain_given(given_under(matches, "domain"))?;
     Some(Asked {
         image,
-        stubs: None,
+        stubs,
         task: Task::Recover(Options { k, budget, domain }),
     })
 }

@@ -2,6 +2,7 @@
 use Rattle.std.proofs.Common.{◌≡◌, ℕ, zero, suc, ◌+◌, ◌<◌, List, [], ◌∷◌, ◌++◌, length, take, get_or, Option, Some, None, inl, inr, refl, sym, ◌∙◌, ap, subst}
 use Rattle.std.specs.Prelude.{fold, slice_get}
 use Rattle.std.proofs.lemmas.List.{take_more}
+use Rattle.stub_file.specs.Stubs.{StatedStubs}
 use Rattle.domain_laws.specs.Laws.{Values}
 use Rattle.memory_map.specs.Image.{Image}
 use Rattle.flow_log.specs.declared.edge.Edge.{Edge}
@@ -23,7 +24,7 @@ fold_taken {A} {X} f a xs i x within is =
     last start [] = refl
     last start (y ∷ ys) = last (f start y) ys
 
-module _ {D : Type 0} (d : Values D) (image : Image) (k budget : ℕ) where
+module _ {D : Type 0} (d : Values D) (image : Image) (stubs : StatedStubs) (k budget : ℕ) where
   abbrev with_next : ℕ → (ℕ → Edge) → List (ℕ × Known D) → ImageLog D → ImageLog D
   with_next number edge_to pairs log = with_next_pairs (covers_state d) (widened_by d k) budget number edge_to pairs log
 
@@ -36,8 +37,8 @@ module _ {D : Type 0} (d : Values D) (image : Image) (k budget : ℕ) where
   labelled_pairs number from x label log (inr labelled) = ap (λ l. with_next number (edge_by from l) x.next log) (sym labelled)
 
   -- an expansion taken in
-  pub expanded_is : (number : ℕ) (row : Row (Known D)) (answer : Post D) (log : ImageLog D) → IsPostOf d image k row.location row.state answer
-      → with_next number (edge_by answer.at answer.label) answer.expansion.next (with_notes number answer.expansion log) ≡ with_expansion (analysis_of d image k) budget number row log
+  pub expanded_is : (number : ℕ) (row : Row (Known D)) (answer : Post D) (log : ImageLog D) → IsPostOf d image stubs k row.location row.state answer
+      → with_next number (edge_by answer.at answer.label) answer.expansion.next (with_notes number answer.expansion log) ≡ with_expansion (analysis_of d image stubs k) budget number row log
   unfolding with_expansion
   expanded_is number row answer log p =
       ap (λ at. with_next number (edge_by at answer.label) answer.expansion.next (with_notes number answer.expansion log)) p.located
@@ -46,45 +47,45 @@ module _ {D : Type 0} (d : Values D) (image : Image) (k budget : ℕ) where
 
   -- one turn of the exploration
   pub explored_one : (fuel number : ℕ) (row : Row (Known D)) (log after : ImageLog D) → slice_get log.rows number ≡ Some row
-      → after ≡ with_expansion (analysis_of d image k) budget number row log
-      → explored (analysis_of d image k) budget (suc fuel) number log ≡ explored (analysis_of d image k) budget fuel (number + 1) after
+      → after ≡ with_expansion (analysis_of d image stubs k) budget number row log
+      → explored (analysis_of d image stubs k) budget (suc fuel) number log ≡ explored (analysis_of d image stubs k) budget fuel (number + 1) after
   unfolding explored
   explored_one fuel number row log after at is =
-      ap (λ found. at_row (analysis_of d image k) budget found log (λ r. explored (analysis_of d image k) budget fuel (number + 1) (with_expansion (analysis_of d image k) budget number r log))) at
-      ∙ ap (λ l. explored (analysis_of d image k) budget fuel (number + 1) l) (sym is)
+      ap (λ found. at_row (analysis_of d image stubs k) budget found log (λ r. explored (analysis_of d image stubs k) budget fuel (number + 1) (with_expansion (analysis_of d image stubs k) budget number r log))) at
+      ∙ ap (λ l. explored (analysis_of d image stubs k) budget fuel (number + 1) l) (sym is)
 
   -- past the last row nothing is left
-  pub explored_past : (fuel number : ℕ) (log : ImageLog D) → slice_get log.rows number ≡ None → explored (analysis_of d image k) budget fuel number log ≡ log
+  pub explored_past : (fuel number : ℕ) (log : ImageLog D) → slice_get log.rows number ≡ None → explored (analysis_of d image stubs k) budget fuel number log ≡ log
   unfolding explored
   explored_past zero number log at = refl
   explored_past (suc fuel) number log at =
-      ap (λ found. at_row (analysis_of d image k) budget found log (λ r. explored (analysis_of d image k) budget fuel (number + 1) (with_expansion (analysis_of d image k) budget number r log))) at
+      ap (λ found. at_row (analysis_of d image stubs k) budget found log (λ r. explored (analysis_of d image stubs k) budget fuel (number + 1) (with_expansion (analysis_of d image stubs k) budget number r log))) at
 
-  pub explored_spent : (number : ℕ) (log : ImageLog D) → explored (analysis_of d image k) budget zero number log ≡ log
+  pub explored_spent : (number : ℕ) (log : ImageLog D) → explored (analysis_of d image stubs k) budget zero number log ≡ log
   unfolding explored
   explored_spent number log = refl
 
-  pub explored_all : explored (analysis_of d image k) budget budget 0 (first_log (analysis_of d image k) budget) ≡ image_log d image k budget
+  pub explored_all : explored (analysis_of d image stubs k) budget budget 0 (first_log (analysis_of d image stubs k) budget) ≡ image_log d image stubs k budget
   unfolding log_of
   explored_all = refl
 
 -- the row of a number whose expansion the code has
-pub record IsRowOf {D : Type 0} (d : Values D) (image : Image) (k : ℕ) (rows : List (Row (Known D))) (number : ℕ) (answer : Post D) : Type 0 where
+pub record IsRowOf {D : Type 0} (d : Values D) (image : Image) (stubs : StatedStubs) (k : ℕ) (rows : List (Row (Known D))) (number : ℕ) (answer : Post D) : Type 0 where
   pub row : Row (Known D)
   pub at : slice_get rows number ≡ Some row
-  pub is : IsPostOf d image k row.location row.state answer
+  pub is : IsPostOf d image stubs k row.location row.state answer
 
-pub row_found : {D : Type 0} (d : Values D) (image : Image) (k : ℕ) (rows : List (Row (Known D))) (number : ℕ) (answer : Post D) → IsPostOfRow d image k (slice_get rows number) (Some answer)
-    → IsRowOf d image k rows number answer
-row_found {D} d image k rows number answer h = found (slice_get rows number) refl h
+pub row_found : {D : Type 0} (d : Values D) (image : Image) (stubs : StatedStubs) (k : ℕ) (rows : List (Row (Known D))) (number : ℕ) (answer : Post D) → IsPostOfRow d image stubs k (slice_get rows number) (Some answer)
+    → IsRowOf d image stubs k rows number answer
+row_found {D} d image stubs k rows number answer h = found (slice_get rows number) refl h
   where
-    found : (o : Option (Row (Known D))) → slice_get rows number ≡ o → IsPostOfRow d image k o (Some answer) → IsRowOf d image k rows number answer
+    found : (o : Option (Row (Known D))) → slice_get rows number ≡ o → IsPostOfRow d image stubs k o (Some answer) → IsRowOf d image stubs k rows number answer
     found None at h' = absurd h'
     found (Some row) at h' = record { row = row; at = at; is = h' }
 
-pub none_found : {D : Type 0} (d : Values D) (image : Image) (k : ℕ) (rows : List (Row (Known D))) (number : ℕ) → IsPostOfRow d image k (slice_get rows number) None → slice_get rows number ≡ None
-none_found {D} d image k rows number h = found (slice_get rows number) refl h
+pub none_found : {D : Type 0} (d : Values D) (image : Image) (stubs : StatedStubs) (k : ℕ) (rows : List (Row (Known D))) (number : ℕ) → IsPostOfRow d image stubs k (slice_get rows number) None → slice_get rows number ≡ None
+none_found {D} d image stubs k rows number h = found (slice_get rows number) refl h
   where
-    found : (o : Option (Row (Known D))) → slice_get rows number ≡ o → IsPostOfRow d image k o None → slice_get rows number ≡ None
+    found : (o : Option (Row (Known D))) → slice_get rows number ≡ o → IsPostOfRow d image stubs k o None → slice_get rows number ≡ None
     found None at h' = at
     found (Some row) at h' = absurd h'

@@ -4,7 +4,7 @@ use Rattle.std.specs.Prelude.{filter, fold, nat_eq, slice_get}
 use Rattle.std.specs.List.{list_any}
 use Rattle.std.specs.Option.{option_map_or}
 use Rattle.std.proofs.lemmas.Bool.{eqb-true}
-use Rattle.std.proofs.lemmas.List.{map-append}
+use Rattle.std.proofs.lemmas.List.{append-nil, map-append}
 use Rattle.std.proofs.lemmas.List.Elements.{filter-append}
 use Rattle.domain_laws.specs.Laws.{Values}
 use Rattle.flow_log.specs.Log.{Row, row_after, rows_at, states_at, with_row}
@@ -17,10 +17,6 @@ use Rattle.flow_worklist.specs.Exploring.{covers_at, IsOf, IsKept}
 fold_more : {A X : Type 0} (f : A → X → A) (a : A) (xs : List X) (x : X) → fold f a (xs ++ x ∷ []) ≡ f (fold f a xs) x
 fold_more f a [] x = refl
 fold_more f a (y ∷ xs) x = fold_more f (f a y) xs x
-
-append_nil : {X : Type 0} (xs : List X) → xs ++ [] ≡ xs
-append_nil [] = refl
-append_nil (x ∷ xs) = ap (λ ys. x ∷ ys) (append_nil xs)
 
 -- what numbers stand for stays as a list grows
 numbers_kept : {X : Type 0} (xs more : List X) (ns : List ℕ) (found : List X) → map (slice_get xs) ns ≡ map Some found → map (slice_get (xs ++ more)) ns ≡ map Some found
@@ -47,7 +43,7 @@ row_here row at rows is = filter-append (λ r. r.location == at) rows (row ∷ [
 
 pub row_there : {S : Type 0} (row : Row S) (q : ℕ) (rows : List (Row S)) → (row.location == q) ≡ false → rows_at q (rows ++ row ∷ []) ≡ rows_at q rows
 row_there row q rows is =
-    filter-append (λ r. r.location == q) rows (row ∷ []) ∙ ap (λ c. rows_at q rows ++ cond c (row ∷ []) []) is ∙ append_nil (rows_at q rows)
+    filter-append (λ r. r.location == q) rows (row ∷ []) ∙ ap (λ c. rows_at q rows ++ cond c (row ∷ []) []) is ∙ append-nil (rows_at q rows)
 
 pub states_are : {S : Type 0} (at : ℕ) (rows : List (Row S)) → states_at at rows ≡ map (λ row. row.state) (rows_at at rows)
 unfolding states_at

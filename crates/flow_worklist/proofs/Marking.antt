@@ -2,7 +2,7 @@
 use Rattle.std.proofs.Common.{◌≡◌, ℕ, zero, suc, ◌+◌, ◌<◌, Bool, true, false, not, cond, List, [], ◌∷◌, ◌++◌, length, take, get_or, map, Option, Some, None, refl, sym, ◌∙◌, ap, arith}
 use Rattle.std.specs.Prelude.{filter, flat_map, filter_map, option_map, option_to_list, unwrap_or, slice_get}
 use Rattle.std.specs.List.{cons_option, enumerate_from}
-use Rattle.std.proofs.lemmas.List.{take_more, map-append}
+use Rattle.std.proofs.lemmas.List.{append-nil, map-append, take_more}
 use Rattle.std.proofs.lemmas.Grind.{flat_map-append}
 use Rattle.std.proofs.lemmas.List.Elements.{filter-append, filter_map-append}
 use Rattle.std.proofs.lemmas.Option.{slice_get_read}
@@ -18,10 +18,6 @@ use Rattle.flow_worklist.specs.Exploring.{cause_unexpanded}
 
 abbrev automaton : ℕ → List Location → List Edge → List OpenMark → Automaton
 automaton entry locations edges marks = record { entry = entry; locations = locations; edges = edges; marks = marks }
-
-pub append_nil : {X : Type 0} (xs : List X) → xs ++ [] ≡ xs
-append_nil [] = refl
-append_nil (x ∷ xs) = ap (λ ys. x ∷ ys) (append_nil xs)
 
 -- three parts mapped, one after another
 pub map_three : {X Y : Type 0} (f : X → Y) (xs ys zs : List X) → (map f xs ++ map f ys) ++ map f zs ≡ map f ((xs ++ ys) ++ zs)
@@ -94,7 +90,7 @@ location_one {S} f rows row =
     let g : ℕ × Row S → List (Mark Cause) = λ numbered. map (mark_of numbered) (f numbered.1.location) in
     let last : ℕ × Row S = (0 + length rows, row) in
     ap (λ l. map open_mark (flat_map g l)) (numbered_more 0 rows row)
-    ∙ ap (map open_mark) (flat_map-append g (enumerate_from 0 rows) (last ∷ []) ∙ ap (λ l. flat_map g (enumerate_from 0 rows) ++ l) (append_nil (g last)))
+    ∙ ap (map open_mark) (flat_map-append g (enumerate_from 0 rows) (last ∷ []) ∙ ap (λ l. flat_map g (enumerate_from 0 rows) ++ l) (append-nil (g last)))
     ∙ map-append open_mark (location_marks f rows) (g last)
     ∙ ap (λ l. map open_mark (location_marks f rows) ++ l) (marked last (f row.location))
 

@@ -1,5 +1,6 @@
 -- The edges of a log of an image are labelled by spellings, and the log has a row.
 use Rattle.std.proofs.Common.{◌≡◌, ℕ, zero, suc, ◌+◌, ◌<◌, Bool, true, false, List, [], ◌∷◌, length, Option, Some, None, refl, sym, ap, subst, ◌==◌}
+use Rattle.std.specs.Option.{IsSome}
 use Rattle.std.specs.Prelude.{Contains, All, slice_get}
 use Rattle.std.proofs.lemmas.List.Elements.{All-push, All-nil, All-weaker, All-contains, All-contains_itself}
 use Rattle.std.proofs.lemmas.Option.{slice_get_within}
@@ -19,29 +20,34 @@ use Rattle.flow_log.proofs.Ordering.{ordered_set-is, IsSetOf}
 use Rattle.flow_log.proofs.Orders.{derived_exact, edge_sets}
 use Rattle.automaton_text.specs.Text.{IsSpelled, AreSpelled}
 use Rattle.x86_machine.specs.Machine.{label_by}
+use Rattle.stub_file.specs.Stubs.{StatedStubs}
 use Rattle.domain_laws.specs.Laws.{Values}
 use Rattle.abstract_state.specs.State.{Known, covers_state, start_state}
 use Rattle.flow_worklist.specs.declared.site.Site.{Site}
 use Rattle.flow_worklist.specs.declared.site.Site.TheVariants.{Exit, Import, Listed, Unlisted}
 use Rattle.flow_worklist.specs.Post.{post, site_at}
 use Rattle.flow_worklist.specs.Analysis.{ImageLog, analysis_of, image_log, automaton_of, edge_from, widened_by}
-use Rattle.flow_worklist.proofs.Posting.{no_pair, post_is, listed_site, label-listed}
+use Rattle.flow_worklist.proofs.Posting.{no_pair, import_named, post_is, listed_site, label-listed}
 
-module _ {D : Type 0} (d : Values D) (image : Image) (k : ℕ) where
+module _ {D : Type 0} (d : Values D) (image : Image) (stubs : StatedStubs) (k : ℕ) where
   abbrev Spelled : Edge → Type 0
   Spelled e = IsSpelled e.label
 
-  spelled_site : (a : ℕ) (s : Known D) (pair : ℕ × Known D) (site : Site) → site_at image a ≡ site → Contains (post d image k a s).next pair
+  spelled_name : (name : Option (List ℕ)) (bytes : List ℕ) → IsSome name → IsSpelled (label_by name bytes)
+  spelled_name None bytes some = cc
+  spelled_name (Some name) bytes some = tt
+
+  spelled_site : (a : ℕ) (s : Known D) (pair : ℕ × Known D) (site : Site) → site_at image a ≡ site → Contains (post d image stubs k a s).next pair
       → IsSpelled (label_by (name_at image a) (code_run image.segments a))
-  spelled_site a s pair Exit is held = no_pair (post d image k a s).next pair _ (ap (λ x. x.next) (post_is d image k a s Exit is)) held
-  spelled_site a s pair Import is held = no_pair (post d image k a s).next pair _ (ap (λ x. x.next) (post_is d image k a s Import is)) held
-  spelled_site a s pair Unlisted is held = no_pair (post d image k a s).next pair _ (ap (λ x. x.next) (post_is d image k a s Unlisted is)) held
+  spelled_site a s pair Exit is held = no_pair (post d image stubs k a s).next pair _ (ap (λ x. x.next) (post_is d image stubs k a s Exit is)) held
+  spelled_site a s pair Import is held = spelled_name (name_at image a) (code_run image.segments a) (import_named image a is)
+  spelled_site a s pair Unlisted is held = no_pair (post d image stubs k a s).next pair _ (ap (λ x. x.next) (post_is d image stubs k a s Unlisted is)) held
   spelled_site a s pair (Listed i n) is held =
       let P : Label → Type 0 = IsSpelled in
       let there : Decodes (code_run image.segments a) i n = decoded_finds (code_run image.segments a) i n (listed_site image a i n is).found in
       subst P (sym (label-listed image a i n is)) (i, there.names)
 
-  spelled_at : (a : ℕ) (s : Known D) (pair : ℕ × Known D) → Contains (post d image k a s).next pair → Spelled (edge_from image a pair.0)
+  spelled_at : (a : ℕ) (s : Known D) (pair : ℕ × Known D) → Contains (post d image stubs k a s).next pair → Spelled (edge_from image a pair.0)
   unfolding edge_from
   spelled_at a s pair held = spelled_site a s pair (site_at image a) refl held
 
@@ -54,29 +60,29 @@ module _ {D : Type 0} (d : Values D) (image : Image) (k : ℕ) where
       (λ other held. each other (Contains-later pair other pairs held))
       (All-push Spelled log.edges (edge_to pair.0) all (each pair (Contains-here pair pairs)))
 
-  spelled_explored : (budget fuel number : ℕ) (log : ImageLog D) → All Spelled log.edges → All Spelled (explored (analysis_of d image k) budget fuel number log).edges
+  spelled_explored : (budget fuel number : ℕ) (log : ImageLog D) → All Spelled log.edges → All Spelled (explored (analysis_of d image stubs k) budget fuel number log).edges
   unfolding explored with_expansion
   spelled_explored budget zero number log all = all
   spelled_explored budget (suc fuel) number log all =
       elim (slice_get log.rows number)
-      as (λ found. All Spelled (at_row (analysis_of d image k) budget found log (λ row. explored (analysis_of d image k) budget fuel (number + 1) (with_expansion (analysis_of d image k) budget number row log))).edges) [
+      as (λ found. All Spelled (at_row (analysis_of d image stubs k) budget found log (λ row. explored (analysis_of d image stubs k) budget fuel (number + 1) (with_expansion (analysis_of d image stubs k) budget number row log))).edges) [
         | None ↦ all
         | Some row ↦ spelled_explored budget fuel (number + 1) _
-            (spelled_pairs budget number (edge_from image row.location) (post d image k row.location row.state).next (with_notes number (post d image k row.location row.state) log)
+            (spelled_pairs budget number (edge_from image row.location) (post d image stubs k row.location row.state).next (with_notes number (post d image stubs k row.location row.state) log)
             (λ pair held. spelled_at row.location row.state pair held) all)
       ]
 
-  log_spelled : (budget : ℕ) → All Spelled (image_log d image k budget).edges
+  log_spelled : (budget : ℕ) → All Spelled (image_log d image stubs k budget).edges
   unfolding log_of
-  log_spelled budget = spelled_explored budget budget 0 (first_log (analysis_of d image k) budget) (All-nil Spelled)
+  log_spelled budget = spelled_explored budget budget 0 (first_log (analysis_of d image stubs k) budget) (All-nil Spelled)
 
-  pub log_has_row : (budget : ℕ) → 0 < length (image_log d image k budget).rows
+  pub log_has_row : (budget : ℕ) → 0 < length (image_log d image stubs k budget).rows
   unfolding log_of
   log_has_row budget =
-      let first = first_log (analysis_of d image k) budget in
-      let g : Grows first (explored (analysis_of d image k) budget budget 0 first) = explored-grows (analysis_of d image k) budget budget 0 first in
-      slice_get_within (image_log d image k budget).rows 0 (row_after budget [] None image.entry (start_state d image))
-      (row_kept first (explored (analysis_of d image k) budget budget 0 first) 0 (row_after budget [] None image.entry (start_state d image)) g refl)
+      let first = first_log (analysis_of d image stubs k) budget in
+      let g : Grows first (explored (analysis_of d image stubs k) budget budget 0 first) = explored-grows (analysis_of d image stubs k) budget budget 0 first in
+      slice_get_within (image_log d image stubs k budget).rows 0 (row_after budget [] None image.entry (start_state d image))
+      (row_kept first (explored (analysis_of d image stubs k) budget budget 0 first) 0 (row_after budget [] None image.entry (start_state d image)) g refl)
 
   in_log : (xs : List Edge) (e : Edge) → Contains (ordered_set edge_cmp xs) e → Contains xs e
   in_log xs e held =
@@ -85,10 +91,10 @@ module _ {D : Type 0} (d : Values D) (image : Image) (k : ℕ) where
       let P : List Edge → Type 0 = λ l. Contains l e in
       is.only e (subst P (sym (edge_sets xs)) held)
 
-  pub automaton_spelled : (budget : ℕ) → AreSpelled (automaton_of image (image_log d image k budget)).edges
+  pub automaton_spelled : (budget : ℕ) → AreSpelled (automaton_of image stubs (image_log d image stubs k budget)).edges
   unfolding automaton_of
   automaton_spelled budget =
-      let log = image_log d image k budget in
+      let log = image_log d image stubs k budget in
       All-weaker (Contains (ordered_set edge_cmp log.edges)) Spelled
       (λ e held. All-contains Spelled log.edges e (log_spelled budget) (in_log log.edges e held))
       (ordered_set edge_cmp log.edges) (All-contains_itself (ordered_set edge_cmp log.edges))

@@ -1,5 +1,6 @@
 -- At every allowed start the machine may execute just what the image's segments have, but for unset bytes.
 use Rattle.std.proofs.Common.{◌≡◌, ℕ, ◌+◌, ◌-◌, ◌≤◌, Bool, true, false, List, [], ◌∷◌, ◌++◌, ◌&&◌, ◌||◌, length, cond, Option, Some, refl, sym, ◌∙◌, ap, inl, inr, arith}
+use Rattle.std.proofs.lemmas.List.{append-nil}
 use Rattle.std.specs.Prelude.{filter, find, option_and_then, slice_get, nat_le, nat_lt, IsTrue}
 use Rattle.std.specs.List.{AllZip, list_any}
 use Rattle.std.proofs.lemmas.Bool.{leb-true}
@@ -78,11 +79,7 @@ no_windows stack fs gs held s f g =
     ∙ filter-append (λ (r : Range). r.execute) held (fs ∷ gs ∷ [])
     ∙ ap (λ b. filter (λ (r : Range). r.execute) held ++ cond b (fs ∷ cond gs.execute (gs ∷ []) []) (cond gs.execute (gs ∷ []) [])) f
     ∙ ap (λ b. filter (λ (r : Range). r.execute) held ++ cond b (gs ∷ []) []) g
-    ∙ append_nil (filter (λ (r : Range). r.execute) held)
-  where
-    append_nil : (xs : List Range) → xs ++ [] ≡ xs
-    append_nil [] = refl
-    append_nil (x ∷ xs) = ap (λ ys. x ∷ ys) (append_nil xs)
+    ∙ append-nil (filter (λ (r : Range). r.execute) held)
 
 or_right : (x y : Bool) → (x || y) ≡ false → y ≡ false
 or_right true y e = cc

@@ -17,6 +17,7 @@ use Rattle.automaton_text.specs.Orders.{mark_cmp}
 use Rattle.automaton_text.specs.declared.automaton.Automaton.{Automaton}
 use Rattle.automaton_text.specs.declared.automaton.Location.{Location}
 use Rattle.automaton_text.specs.declared.automaton.OpenMark.{OpenMark}
+use Rattle.stub_file.specs.Stubs.{StatedStubs}
 use Rattle.domain_laws.specs.Laws.{Values}
 use Rattle.abstract_state.specs.State.{Known, start_state, covers_state}
 use Rattle.abstract_state.specs.Expanding.{Written}
@@ -41,21 +42,21 @@ module _ {D : Type 0} (d : Values D) where
   abbrev pub widened_by : ℕ → List (Known D) → Known D → Known D
   widened_by k seen s = widened_state d k (seen_of d seen) s
 
-  -- the analysis of an image over a domain
-  abbrev pub analysis_of : Image → ℕ → ImageAnalysis D
-  analysis_of image k = record {
+  -- the analysis of an image with stubs over a domain
+  abbrev pub analysis_of : Image → StatedStubs → ℕ → ImageAnalysis D
+  analysis_of image stubs k = record {
     entry = image.entry;
     start = start_state d image;
-    expand = λ a s. post d image k a s;
+    expand = λ a s. post d image stubs k a s;
     edge = λ a s to. edge_from image a to;
     covers = covers_state d;
     widen = widened_by k;
-    location_causes = location_causes image;
+    location_causes = location_causes image stubs;
     unexpanded = causes.Budget;
   }
 
-  abbrev pub image_log : Image → ℕ → ℕ → ImageLog D
-  image_log image k budget = log_of (analysis_of image k) budget
+  abbrev pub image_log : Image → StatedStubs → ℕ → ℕ → ImageLog D
+  image_log image stubs k budget = log_of (analysis_of image stubs k) budget
 
 abbrev pub location_of : Image → ℕ → Location
 location_of image a = record { at = a; name = name_at image a }
@@ -72,12 +73,12 @@ abbrev pub entry_of : {S : Type 0} → List (Row S) → ℕ
 entry_of rows = unwrap_or (option_map (λ row. row.location) (slice_get rows 0)) 0
 
 -- the automaton of a log: each list in order, each member once
-unfoldable pub automaton_of : {S : Type 0} → Image → Log S Edge Cause Written → Automaton
-automaton_of image log = record {
+unfoldable pub automaton_of : {S : Type 0} → Image → StatedStubs → Log S Edge Cause Written → Automaton
+automaton_of image stubs log = record {
   entry = entry_of log.rows;
   locations = map (location_of image) (ordered_set nat_cmp (map (λ row. row.location) log.rows));
   edges = ordered_set edge_cmp log.edges;
-  marks = ordered_set mark_cmp (map open_mark (marks_by (location_causes image) causes.Budget log));
+  marks = ordered_set mark_cmp (map open_mark (marks_by (location_causes image stubs) causes.Budget log));
 }
 
 -- outside the written ranges and the unset bytes, the machine may execute just what the image's segments have

@@ -1,5 +1,5 @@
 -- Where a row leads: the next pairs of its location and state, and the causes that leave it open.
-use Rattle.std.specs.Prelude.{ℕ, Bool, List, [], ◌∷◌, Option, None, Some, ◌||◌, ◌==◌, if◌then◌else◌}
+use Rattle.std.specs.Prelude.{ℕ, Bool, List, [], ◌∷◌, Option, None, Some, is_some, ◌||◌, ◌==◌, if◌then◌else◌}
 use Rattle.std.specs.List.{list_any, range_with_len}
 use Rattle.domain_laws.specs.Laws.{Values}
 use Rattle.memory_map.specs.Range.{code_run}
@@ -11,7 +11,9 @@ use Rattle.flow_log.specs.declared.cause.Cause.{Cause}
 use Rattle.flow_log.specs.declared.cause.Cause.TheVariants as causes
 use Rattle.abstract_state.specs.State.{Known}
 use Rattle.abstract_state.specs.Expanding.{Expanded, Written, ended, stopped}
+use Rattle.stub_file.specs.Stubs.{StatedStubs, stub_named}
 use Rattle.transfer_functions.specs.Post.{expand_instr}
+use Rattle.import_stubs.specs.Stub.{expand_at}
 use Rattle.flow_worklist.specs.declared.site.Site.{Site}
 use Rattle.flow_worklist.specs.declared.site.Site.TheVariants.{Exit, Import, Listed, Unlisted}
 
@@ -27,10 +29,10 @@ site_by (Some name) other = Import
 unfoldable pub site_at : Image → ℕ → Site
 site_at image a = if a == EXIT_PLACE then Exit else site_by (name_at image a) (site_of (decoded (code_run image.segments a)))
 
-module _ {D : Type 0} (d : Values D) (image : Image) (k : ℕ) where
+module _ {D : Type 0} (d : Values D) (image : Image) (stubs : StatedStubs) (k : ℕ) where
   abbrev pub post_at : Site → ℕ → Known D → Expanded D
   post_at Exit a s = ended []
-  post_at Import a s = stopped causes.NoStub []
+  post_at Import a s = expand_at d image stubs a s
   post_at (Listed i n) a s = expand_instr d image k i a n s
   post_at Unlisted a s = stopped causes.Bytes []
 
@@ -46,12 +48,17 @@ is_touched image writes a = list_any (λ w. is_in_span a (record { low = w.0; si
 unfoldable pub meets_touched : Image → List Written → ℕ → ℕ → Bool
 meets_touched image writes a n = list_any (is_touched image writes) (range_with_len a n)
 
-abbrev pub site_causes : Image → List Written → ℕ → Site → List Cause
-site_causes image writes a Exit = []
-site_causes image writes a Import = causes.NoStub ∷ []
-site_causes image writes a (Listed i n) = if meets_touched image writes a n then causes.Code ∷ [] else []
-site_causes image writes a Unlisted = causes.Bytes ∷ []
+-- an import has no stub
+abbrev pub import_causes : StatedStubs → Option (List ℕ) → List Cause
+import_causes stubs None = []
+import_causes stubs (Some name) = if is_some (stub_named name stubs) then [] else causes.NoStub ∷ []
+
+abbrev pub site_causes : Image → StatedStubs → List Written → ℕ → Site → List Cause
+site_causes image stubs writes a Exit = []
+site_causes image stubs writes a Import = import_causes stubs (name_at image a)
+site_causes image stubs writes a (Listed i n) = if meets_touched image writes a n then causes.Code ∷ [] else []
+site_causes image stubs writes a Unlisted = causes.Bytes ∷ []
 
 -- the causes that hold of an address by all written ranges, whatever rows are there
-unfoldable pub location_causes : Image → List Written → ℕ → List Cause
-location_causes image writes a = site_causes image writes a (site_at image a)
+unfoldable pub location_causes : Image → StatedStubs → List Written → ℕ → List Cause
+location_causes image stubs writes a = site_causes image stubs writes a (site_at image a)

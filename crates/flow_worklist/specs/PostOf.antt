@@ -8,6 +8,7 @@ use Rattle.flow_log.specs.Log.{Row}
 use Rattle.x86_machine.specs.Machine.{label_by}
 use Rattle.abstract_state.specs.State.{Known}
 use Rattle.abstract_state.specs.Expanding.{Expanded}
+use Rattle.stub_file.specs.Stubs.{StatedStubs}
 use Rattle.flow_worklist.specs.declared.post.Post.{Post}
 use Rattle.flow_worklist.specs.Post.{post}
 
@@ -15,11 +16,11 @@ use Rattle.flow_worklist.specs.Post.{post}
 abbrev pub IsLabelled : {D : Type 0} → Image → ℕ → Expanded D → Label → Type 0
 IsLabelled image a x label = (x.next ≡ []) ⊎ (label_by (name_at image a) (code_run image.segments a) ≡ label)
 
-module _ {D : Type 0} (d : Values D) (image : Image) (k : ℕ) where
+module _ {D : Type 0} (d : Values D) (image : Image) (stubs : StatedStubs) (k : ℕ) where
   -- the address of a row, its expansion, and the label of its steps
   pub record IsPostOf (location : ℕ) (s : Known D) (answer : Post D) : Type 0 where
     pub located : answer.at ≡ location
-    pub expansion : answer.expansion ≡ post d image k location s
+    pub expansion : answer.expansion ≡ post d image stubs k location s
     pub label : IsLabelled image location answer.expansion answer.label
 
   -- of a row where there is one

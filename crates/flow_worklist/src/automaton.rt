@@ -16,20 +16,22 @@ use flow_log::{Cause, Edge, sorted_edges, sorted_set};
 use image_loader::Image;
 use memory_map::{Items, Name};
 use std::alloc::Global;
+use stub_file::Stubs;
 
-/// The automaton of a log that was made with this image. Refuses want of memory alone.
+/// The automaton of a log that was made with this image and these stubs. Refuses want of memory alone.
 pub fn automaton_of<D: Domain>(
     alloc: Global,
     image: &Image,
+    stubs: &Stubs,
     log: &Log<D>,
 ) -> Result<Automaton, NoMemory>
     requires { 0 < length log.now.rows }
-    ensures { IfOk result (λ a. a ≡ automaton_of image.now log.now) }
+    ensures { IfOk result (λ a. a ≡ automaton_of image.now stubs.now log.now) }
 {
     let entry = log.rows()[0].location();
     let locations = locations(alloc, image, log.rows())?;
     let edges = sorted_edges(copies(alloc, log.edges())?);
-    let marks = sorted_marks(marks(alloc, image, log)?);
+    let marks = sorted_marks(marks(alloc, image, stubs, log)?);
     Ok(Automaton {
         entry,
         locations: Items::from_vec(locations),
@@ -93,11 +95,16 @@ fn copies(alloc: Global, edges: &[Edge]) -> Result<Vec<Edge>, NoMemory>
 
 // All marks, in the order of the definition.
 #[tactic(auto, unfolding(flow_log::specs::Log::marks_by))]
-fn marks<D: Domain>(alloc: Global, image: &Image, log: &Log<D>) -> Result<Vec<OpenMark>, NoMemory>
-    ensures { IfOk result (λ m. m.items ≡ map open_mark (marks_by (location_causes image.now) Cause.Budget log.now)) }
+fn marks<D: Domain>(
+    alloc: Global,
+    image: &Image,
+    stubs: &Stubs,
+    log: &Log<D>,
+) -> Result<Vec<OpenMark>, NoMemory>
+    ensures { IfOk result (λ m. m.items ≡ map open_mark (marks_by (location_causes image.now stubs.now) Cause.Budget log.now)) }
 {
     let mut found = Vec::new(alloc);
-    push_location_marks(&mut found, image, log.writes(), log.rows())?;
+    push_location_marks(&mut found, image, stubs, log.writes(), log.rows())?;
     push_expansion_marks(&mut found, log.rows(), log.causes())?;
     push_unexpanded_marks(&mut found, log.rows())?;
     Ok(found)
@@ -116,14 +123,15 @@ fn push_mark(out: &mut Vec<OpenMark>, at: u32, cause: Option<Cause>) -> Result<(
 fn push_location_marks<D: Domain>(
     out: &mut Vec<OpenMark>,
     image: &Image,
+    stubs: &Stubs,
     writes: &[(u32, u32)],
     rows: &[Row<D>],
 ) -> Result<(), NoMemory>
-    ensures { OnOk result (out.new.items ≡ out.old.items ++ map open_mark (location_marks (location_causes image.now writes.now) rows.now)) }
+    ensures { OnOk result (out.new.items ≡ out.old.items ++ map open_mark (location_marks (location_causes image.now stubs.now writes.now) rows.now)) }
 {
     for row in rows {
         let at = row.location();
-        push_mark(out, at, location_cause(image, writes, at))?;
+        push_mark(out, at, location_cause(image, stubs, writes, at))?;
     }
     Ok(())
 }

@@ -2,6 +2,7 @@ ghost use Rattle.std.specs.Prelude.{ℕ, ◌≡◌, [], ◌∷◌, ◌++◌, Som
 ghost use Rattle.std.specs.HashMap.{get};
 ghost use Rattle.domain_laws.specs.Made.{values_of};
 ghost use Rattle.flow_log.specs.Log.{first_log, row_after, with_notes, with_next_pair, with_next_pairs, with_row};
+ghost use Rattle.stub_file.specs.Stubs.{StatedStubs};
 ghost use Rattle.abstract_state.specs.State.{covers_state};
 ghost use Rattle.flow_worklist.specs.Analysis.{analysis_of, edge_by, image_log, widened_by};
 ghost use Rattle.flow_worklist.specs.Exploring.{IsIndexed, IsIndexedBut, IsOf, log_in};
@@ -17,6 +18,8 @@ use flow_log::{Cause, Edge};
 use image_loader::Image;
 use std::alloc::Global;
 use std::collections::HashMap;
+use std::thread::Threads;
+use stub_file::Stubs;
 
 /// How far an exploration goes.
 #[derive(Clone, Copy)]
@@ -40,7 +43,7 @@ struct Exploration<D: Domain> {
 impl<D: Domain> Exploration<D> {
     // Row 0 alone.
     fn start(alloc: Global, image: &Image, limits: Limits) -> Result<Exploration<D>, NoMemory>
-        ensures log { IfOk result (λ e. log_in e ≡ first_log (analysis_of (values_of D.Domain.own D.eq) image.now limits.k) limits.budget) }
+        ensures log { (stubs : StatedStubs) → IfOk result (λ e. log_in e ≡ first_log (analysis_of (values_of D.Domain.own D.eq) image.now stubs limits.k) limits.budget) }
         ensures indexed { IfOk result (IsIndexed (values_of D.Domain.own D.eq)) }
     {
         let state = State::start(alloc, image)?;
@@ -64,13 +67,14 @@ impl<D: Domain> Exploration<D> {
         &self,
         alloc: Global,
         image: &Image,
+        stubs: &Stubs,
         k: u32,
         number: u32,
     ) -> Result<Option<Post<D>>, NoMemory>
-        ensures { IfOk result (IsPostOfRow (values_of D.Domain.own D.eq) image.now k (slice_get self.now.rows.items number)) }
+        ensures { IfOk result (IsPostOfRow (values_of D.Domain.own D.eq) image.now stubs.now k (slice_get self.now.rows.items number)) }
     {
         match self.rows.get(number as usize) {
-            Some(row) => Ok(Some(expanded(alloc, image, k, row.location(), row.state())?)),
+            Some(row) => Ok(Some(expanded(alloc, image, stubs, k, row.location(), row.state())?)),
             None => Ok(None),
         }
     }
@@ -247,13 +251,20 @@ fn push_causes(out: &mut Vec<(u32, Cause)>, number: u32, causes: &[Cause]) -> Re
     Ok(())
 }
 
-/// The log of an image over a domain, of which the first `budget` rows are expanded. Refuses want of memory alone.
-pub fn explore<D: Domain>(alloc: Global, image: &Image, limits: Limits) -> Result<Log<D>, NoMemory>
-    ensures { IfOk result (λ log. log ≡ image_log (values_of D.Domain.own D.eq) image.now limits.k limits.budget) }
+/// The log of an image with stubs over a domain, of which the first `budget` rows are expanded. Refuses want of memory alone.
+pub fn explore<R: Threads + Sync, D: Domain>(
+    rt: &R,
+    alloc: Global,
+    image: &Image,
+    stubs: &Stubs,
+    limits: Limits,
+) -> Result<Log<D>, NoMemory>
+    ensures { IfOk result (λ log. log ≡ image_log (values_of D.Domain.own D.eq) image.now stubs.now limits.k limits.budget) }
 {
+    let _ = rt;
     let mut exploration = Exploration::start(alloc, image, limits)?;
     for n in 0..limits.budget {
-        let found = exploration.expanded(alloc, image, limits.k, n)?;
+        let found = exploration.expanded(alloc, image, stubs, limits.k, n)?;
         match found {
             None => return Ok(exploration.finish()),
             Some(post) => exploration.take_in(alloc, n, post, limits)?,

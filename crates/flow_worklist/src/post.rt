@@ -1,6 +1,9 @@
-ghost use Rattle.std.specs.Prelude.{◌≡◌, IfOk, take};
+ghost use Rattle.std.specs.Prelude.{◌≡◌, [], IfOk, take};
 ghost use Rattle.domain_laws.specs.Made.{values_of};
 ghost use Rattle.memory_map.specs.Range.{code_run};
+ghost use Rattle.std.specs.Option.{IsSome};
+ghost use Rattle.memory_map.specs.Image.{name_at};
+ghost use Rattle.x86_machine.specs.Machine.{label_by};
 ghost use Rattle.flow_worklist.specs.PostOf.{IsPostOf};
 
 use crate::site::{Site, site_at};
@@ -9,7 +12,10 @@ use bit_words::NoMemory;
 use domain_laws::Domain;
 use flow_log::{Cause, Label};
 use image_loader::Image;
+use import_stubs::expand_stub;
+use memory_map::Name;
 use std::alloc::Global;
+use stub_file::Stubs;
 use transfer_functions::expand_instr;
 
 /// The address of a row, its expansion, and the label of its steps.
@@ -24,15 +30,20 @@ pub struct Post<D: Domain> {
 pub fn expanded<D: Domain>(
     alloc: Global,
     image: &Image,
+    stubs: &Stubs,
     k: u32,
     at: u32,
     s: &State<D>,
 ) -> Result<Post<D>, NoMemory>
-    ensures { IfOk result (IsPostOf (values_of D.Domain.own D.eq) image.now k at s.now) }
+    ensures { IfOk result (IsPostOf (values_of D.Domain.own D.eq) image.now stubs.now k at s.now) }
 {
     match site_at(image, at) {
         Site::Exit => Ok(without_steps(at, Expansion::nothing(alloc))),
-        Site::Import => Ok(without_steps(at, Expansion::caused(alloc, Cause::NoStub)?)),
+        Site::Import => Ok(Post {
+            at,
+            expansion: expand_stub(alloc, image, stubs, at, s)?,
+            label: import_label(alloc, image, at)?,
+        }),
         Site::Listed(i, size) => Ok(Post {
             at,
             expansion: expand_instr(alloc, image, at, &i, size, s, k)?,
@@ -61,4 +72,18 @@ fn code_label(image: &Image, at: u32, size: u8) -> Label
     let mut bytes = image.fetch(at);
     bytes.truncate(usize::from(size));
     Label::code(bytes.as_slice())
+}
+
+// The label of the import whose place an address is.
+fn import_label(alloc: Global, image: &Image, at: u32) -> Result<Label, NoMemory>
+    requires { IsSome (name_at image.now at) }
+    ensures { IfOk result (λ label. label ≡ label_by (name_at image.now at) []) }
+{
+    match image.name_at(at) {
+        Some(name) => match Name::new(Vec::from_slice(alloc, name)?) {
+            Some(name) => Ok(Label::Import(name)),
+            None => Ok(Label::code(&[])),
+        },
+        None => Ok(Label::code(&[])),
+    }
 }

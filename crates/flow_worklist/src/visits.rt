@@ -12,7 +12,7 @@ use std::alloc::Global;
 
 /// What is kept of a location: the numbers of its rows, in order, and the values that their states hold.
 #[derive(Drop)]
-pub struct Visits<D> {
+pub struct Visits<D: Domain> {
     pub numbers: Vec<usize>,
     pub seen: Seen<D>,
 }

@@ -1,5 +1,6 @@
 -- Which lines the text of an automaton has.
 use Rattle.std.proofs.Common.{◌≡◌, ℕ, List, [], ◌∷◌, ◌++◌, length, refl, sym, ◌∙◌, ap, subst, inl, inr, append_assoc}
+use Rattle.std.proofs.lemmas.List.{append-nil}
 use Rattle.std.specs.Prelude.{Contains, flat_map, codes}
 use Rattle.flow_log.specs.declared.edge.Edge.{Edge}
 use Rattle.flow_log.proofs.Members.{Contains-cases, Contains-none}
@@ -24,11 +25,7 @@ after_line before line e = inr (before ++ e.front, ap (λ l. before ++ l) e.ends
 
 module _ {X : Type 0} (f : X → List ℕ) (ends : (x : X) → EndsLine (f x)) where
   after_lines : (before : List ℕ) (xs : List X) → IsLineStart before → IsLineStart (before ++ flat_map f xs)
-  after_lines before [] starts = let P : List ℕ → Type 0 = IsLineStart in subst P (sym (append_nil before)) starts
-    where
-      append_nil : (ys : List ℕ) → ys ++ [] ≡ ys
-      append_nil [] = refl
-      append_nil (y ∷ ys) = ap (λ zs. y ∷ zs) (append_nil ys)
+  after_lines before [] starts = let P : List ℕ → Type 0 = IsLineStart in subst P (sym (append-nil before)) starts
   after_lines before (x ∷ xs) starts =
       let P : List ℕ → Type 0 = IsLineStart in
       subst P (append_assoc before (f x) (flat_map f xs)) (after_lines (before ++ f x) xs (after_line before (f x) (ends x)))

@@ -22,9 +22,9 @@ use Rattle.jakstab_core.specs.Due.{IsDelivered}
 use Rattle.jakstab_core.proofs.Covering.{text_covers}
 
 -- the text of a task says of the machine's runs what it is to say
-covers_of : (task : Task) (stubs : StatedStubs) (image : Image) (text : List ℕ) → IsExplored task image → IsLoaded image → IsTextOf task stubs image text → Covers task image text
+covers_of : (task : Task) (stubs : StatedStubs) (image : Image) (text : List ℕ) → IsExplored task image → IsLoaded image → IsTextOf task stubs image text → Covers task stubs image text
 covers_of (Recover options) stubs image text explored loaded is =
-    let P : List ℕ → Type 0 = CoversRuns image in subst P (sym is) (text_covers image explored loaded options)
+    let P : List ℕ → Type 0 = CoversRuns image stubs in subst P (sym is) (text_covers image stubs explored loaded options)
 covers_of ListImage stubs image text explored loaded is = tt
 covers_of (Decode address count) stubs image text explored loaded is = tt
 

@@ -3,6 +3,7 @@ use Rattle.std.specs.Prelude.{ℕ, ◌≡◌, ◌⊎◌, List, [], ◌∷◌, �
 use Rattle.memory_map.specs.Image.{Image}
 use Rattle.memory_map.specs.State.{MachineState}
 use Rattle.memory_map.specs.Start.{Start}
+use Rattle.stub_file.specs.Stubs.{StatedStubs}
 use Rattle.flow_log.specs.declared.cause.Cause.{Cause}
 use Rattle.flow_log.specs.Run.{IsRun}
 use Rattle.x86_machine.specs.Machine.{machine_of, edge_of}
@@ -32,25 +33,25 @@ abbrev pub IsPrintedOpen : List ℕ → ℕ → Type 0
 IsPrintedOpen text a = (cause : Cause) × HasLine text (open_line (record { at = a; cause = cause }))
 
 -- each step that a run makes before it first stands at a location printed open is a printed edge:
--- the address before, the address after, and the bytes that the machine fetched
+-- the address before, the address after, and the bytes that the machine fetched, or the import's name
 abbrev pub IsCovered : Image → List ℕ → MachineState → List MachineState → Type 0
 IsCovered image text m [] = ⊤
 IsCovered image text m (next ∷ rest) =
     (IsPrintedOpen text m.eip → ⊥) → HasLine text (edge_line (edge_of image m next)) × IsCovered image text next rest
 
 -- the same of every run: from every allowed start, under every choice, of any number of steps
-abbrev pub CoversRuns : Image → List ℕ → Type 0
-CoversRuns image text = (m : MachineState) → Start image m → (states : List MachineState) → IsRun (machine_of image) m states → IsCovered image text m states
+abbrev pub CoversRuns : Image → StatedStubs → List ℕ → Type 0
+CoversRuns image stubs text = (m : MachineState) → Start image m → (states : List MachineState) → IsRun (machine_of image stubs) m states → IsCovered image text m states
 
--- the text of the automaton of the log of an image over a domain
-unfoldable pub log_text : {D : Type 0} → Values D → Image → ℕ → ℕ → List ℕ
-log_text d image k budget = text_of (automaton_of image (image_log d image k budget))
+-- the text of the automaton of the log of an image with stubs over a domain
+unfoldable pub log_text : {D : Type 0} → Values D → Image → StatedStubs → ℕ → ℕ → List ℕ
+log_text d image stubs k budget = text_of (automaton_of image stubs (image_log d image stubs k budget))
 
 -- over the domain of this name
-abbrev pub text_over : DomainName → Image → ℕ → ℕ → List ℕ
-text_over Flat image k budget = log_text flat image k budget
-text_over Bounded image k budget = log_text bounded image k budget
+abbrev pub text_over : DomainName → Image → StatedStubs → ℕ → ℕ → List ℕ
+text_over Flat image stubs k budget = log_text flat image stubs k budget
+text_over Bounded image stubs k budget = log_text bounded image stubs k budget
 
 -- the text of `recover`
-abbrev pub recovered_text : Image → Options → List ℕ
-recovered_text image options = text_over options.domain image options.k options.budget
+abbrev pub recovered_text : Image → StatedStubs → Options → List ℕ
+recovered_text image stubs options = text_over options.domain image stubs options.k options.budget

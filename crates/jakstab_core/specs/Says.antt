@@ -90,7 +90,7 @@ pub record SaysDone (a : Call) (out : Gain) : Type 0 where
   pub due : IsDue a text
   pub gained : Gained out.before out.after text
   -- and no run leaves that automaton before a location printed open
-  pub covers : Covers due.has.read.command.task due.has.image text
+  pub covers : Covers due.has.read.command.task due.has.stubs due.has.image text
 
 pub record SaysWriteFault (a : Call) (out : Gain) : Type 0 where
   pub rose : Rose out.faults_before out.faults_after

@@ -10,12 +10,12 @@ use Rattle.jakstab_core.specs.Headline.{CoversRuns, recovered_text}
 
 -- the text that it writes
 abbrev pub IsTextOf : Task → StatedStubs → Image → List ℕ → Type 0
-IsTextOf (Recover options) stubs image text = text ≡ recovered_text image options
+IsTextOf (Recover options) stubs image text = text ≡ recovered_text image stubs options
 IsTextOf ListImage stubs image text = text ≡ list_text stubs image
 IsTextOf (Decode address count) stubs image text = IsListing image address count text
 
 -- what that text says of the machine's runs: no run leaves the automaton before a location printed open
-abbrev pub Covers : Task → Image → List ℕ → Type 0
-Covers (Recover options) image text = CoversRuns image text
-Covers ListImage image text = Unit {0}
-Covers (Decode address count) image text = Unit {0}
+abbrev pub Covers : Task → StatedStubs → Image → List ℕ → Type 0
+Covers (Recover options) stubs image text = CoversRuns image stubs text
+Covers ListImage stubs image text = Unit {0}
+Covers (Decode address count) stubs image text = Unit {0}

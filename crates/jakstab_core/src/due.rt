@@ -16,6 +16,7 @@ use image_listing::print_list;
 use image_loader::{Image, Loaded, fault_number, load};
 use outside_io::{Shelf, ShelfFault};
 use std::alloc::Global;
+use std::thread::Threads;
 use stub_file::{StubFault, Stubs, read_stubs};
 
 /// The most bytes of an image file.
@@ -28,7 +29,12 @@ const STUBS_LIMIT: u64 = 1_048_576;
 const UNEXPLORED: u32 = 300;
 
 /// The text that the command of the words writes. Refuses as `IsRefused` says, each status for its own cause.
-pub fn due_text<S: Shelf>(alloc: Global, words: &[String], shelf: &mut S) -> Result<Vec<u8>, Status>
+pub fn due_text<R: Threads + Sync, S: Shelf>(
+    rt: &R,
+    alloc: Global,
+    words: &[String],
+    shelf: &mut S,
+) -> Result<Vec<u8>, Status>
     ensures { MatchResult result (λ text. IsDue (record { words = map string_bytes words.now; shelf = record { held = S.contents shelf.old; faults_before = S.faults shelf.old; faults_after = S.faults shelf.new } }) text.items) (λ status. IsRefused status (record { words = map string_bytes words.now; shelf = record { held = S.contents shelf.old; faults_before = S.faults shelf.old; faults_after = S.faults shelf.new } })) }
 {
     let asked = match command(alloc, words) {
@@ -40,7 +46,7 @@ pub fn due_text<S: Shelf>(alloc: Global, words: &[String], shelf: &mut S) -> Res
     let loaded = laid_out(alloc, &bytes)?;
     let stubs = stubs_of(alloc, shelf, asked.stubs)?;
     match loaded.bind(alloc, &stubs) {
-        Ok(image) => text_of_image(alloc, asked.task, &stubs, &image),
+        Ok(image) => text_of_image(rt, alloc, asked.task, &stubs, &image),
         Err(_) => Err(Status::Memory),
     }
 }
@@ -113,13 +119,19 @@ fn stub_number(fault: StubFault) -> Option<u32>
 }
 
 // The text of a task on an image.
-fn text_of_image(alloc: Global, task: Task, stubs: &Stubs, image: &Image) -> Result<Vec<u8>, Status>
+fn text_of_image<R: Threads + Sync>(
+    rt: &R,
+    alloc: Global,
+    task: Task,
+    stubs: &Stubs,
+    image: &Image,
+) -> Result<Vec<u8>, Status>
     ensures { MatchResult result (λ text. IsTextOfImage task stubs.now image.now text.items) (IsImageRefused task image.now) }
 {
     if !is_explored(task, image) {
         return Err(Status::ImageRefused(UNEXPLORED));
     }
-    match task_text(alloc, task, stubs, image) {
+    match task_text(rt, alloc, task, stubs, image) {
         Ok(text) => Ok(text),
         Err(_) => Err(Status::Memory),
     }
@@ -139,11 +151,17 @@ fn is_explored(task: Task, image: &Image) -> bool
 }
 
 // The text that a task writes of an image.
-fn task_text(alloc: Global, task: Task, stubs: &Stubs, image: &Image) -> Result<Vec<u8>, NoMemory>
+fn task_text<R: Threads + Sync>(
+    rt: &R,
+    alloc: Global,
+    task: Task,
+    stubs: &Stubs,
+    image: &Image,
+) -> Result<Vec<u8>, NoMemory>
     ensures { IfOk result (λ text. IsTextOf task stubs.now image.now text.items) }
 {
     match task {
-        Task::Recover(options) => recovered_text(alloc, image, options),
+        Task::Recover(options) => recovered_text(rt, alloc, image, stubs, options),
         Task::List => print_list(alloc, image, stubs),
         Task::Decode { address, count } => print_listing(alloc, image, address, count),
     }

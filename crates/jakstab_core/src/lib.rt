@@ -7,10 +7,18 @@
 mod decode_tests;
 mod due;
 #[cfg(test)]
+mod image_tests;
+#[cfg(test)]
+mod import_tests;
+#[cfg(test)]
 mod list_tests;
 #[cfg(test)]
 mod memory_tests;
 mod recover;
+#[cfg(test)]
+mod sample_files;
+#[cfg(test)]
+mod sample_tests;
 mod status;
 #[cfg(test)]
 mod tests;

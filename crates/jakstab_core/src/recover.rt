@@ -10,26 +10,40 @@ use domain_laws::{Domain, FlatNumbers};
 use flow_worklist::{Limits, automaton_of, explore};
 use image_loader::Image;
 use std::alloc::Global;
+use std::thread::Threads;
+use stub_file::Stubs;
 
-// The text of the automaton of an image's log over a domain.
-fn log_text<D: Domain>(alloc: Global, image: &Image, limits: Limits) -> Result<Vec<u8>, NoMemory>
-    ensures { IfOk result (λ text. text.items ≡ log_text (values_of D.Domain.own D.eq) image.now limits.k limits.budget) }
+// The text of the automaton of an image's log over a domain, with stubs.
+fn log_text<R: Threads + Sync, D: Domain>(
+    rt: &R,
+    alloc: Global,
+    image: &Image,
+    stubs: &Stubs,
+    limits: Limits,
+) -> Result<Vec<u8>, NoMemory>
+    ensures { IfOk result (λ text. text.items ≡ log_text (values_of D.Domain.own D.eq) image.now stubs.now limits.k limits.budget) }
 {
-    let log = explore::<D>(alloc, image, limits)?;
-    let automaton = automaton_of(alloc, image, &log)?;
+    let log = explore::<R, D>(rt, alloc, image, stubs, limits)?;
+    let automaton = automaton_of(alloc, image, stubs, &log)?;
     print_automaton(alloc, &automaton)
 }
 
-/// The text of the automaton of an image.
-pub fn recovered_text(alloc: Global, image: &Image, options: Options) -> Result<Vec<u8>, NoMemory>
-    ensures { IfOk result (λ text. text.items ≡ recovered_text image.now options) }
+/// The text of the automaton of an image with stubs.
+pub fn recovered_text<R: Threads + Sync>(
+    rt: &R,
+    alloc: Global,
+    image: &Image,
+    stubs: &Stubs,
+    options: Options,
+) -> Result<Vec<u8>, NoMemory>
+    ensures { IfOk result (λ text. text.items ≡ recovered_text image.now stubs.now options) }
 {
     let limits = Limits {
         k: options.k,
         budget: options.budget,
     };
     match options.domain {
-        DomainName::Flat => log_text::<FlatNumbers>(alloc, image, limits),
-        DomainName::Bounded => log_text::<Bounded>(alloc, image, limits),
+        DomainName::Flat => log_text::<R, FlatNumbers>(rt, alloc, image, stubs, limits),
+        DomainName::Bounded => log_text::<R, Bounded>(rt, alloc, image, stubs, limits),
     }
 }

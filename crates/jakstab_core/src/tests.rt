@@ -5,7 +5,9 @@ use bit_words::NoMemory;
 use demo_images::form_e;
 use outside_io::{MemoryShelf, MemorySink, SureShelf, SureSink};
 use std::alloc::{AllocError, Global};
+use std::process::Abort;
 use std::test::Fail;
+use std::thread::Threads;
 
 // The file of code in one segment that may be read and executed.
 pub fn file_with(alloc: Global, code: &[u8]) -> Result<Vec<u8>, NoMemory> {
@@ -26,7 +28,49 @@ pub fn sink(alloc: Global, per_write: usize, fail_at: Vec<u64>) -> Result<Memory
     MemorySink::new(alloc, 4096, per_write, fail_at)
 }
 
-const SELF_JUMP: &str = "\
+// A file in which other bytes stand from an offset on.
+pub fn changed(mut file: Vec<u8>, at: usize, bytes: &[u8]) -> Vec<u8> {
+    for (place, b) in file.iter_mut().skip(at).zip(bytes.iter()) {
+        *place = *b;
+    }
+    file
+}
+
+// The stub file `s`.
+const STUBS: &str = "\
+[stub.malloc]
+args = 4
+reply = \"block\"
+size_arg = 0
+may_fail = true
+
+[stub.exit]
+args = 4
+reply = \"never\"
+";
+
+// Does a command over the file `i` and the stub file, which is to write a text.
+pub fn check_text<R: Abort + Threads + Sync>(
+    rt: &R,
+    alloc: Global,
+    words: &[&str],
+    file: &[u8],
+    want: &str,
+) -> Result<(), Fail> {
+    let mut shelf = MemoryShelf::new(alloc, Vec::new(alloc));
+    shelf.put("i", Vec::from_slice(alloc, file)?)?;
+    shelf.put("s", Vec::from_slice(alloc, STUBS.as_bytes())?)?;
+    let mut out = sink(alloc, 4096, Vec::new(alloc))?;
+    let mut note = sink(alloc, 4096, Vec::new(alloc))?;
+    let words = words_of(alloc, words)?;
+    let status = jakstab(rt, alloc, &words, &mut shelf, &mut out, &mut note);
+    assert_eq!(rt; status, Status::Done, "{want}");
+    assert_eq!(rt; out.written(), want.as_bytes(), "{want}");
+    assert!(rt; note.written().is_empty(), "{want}");
+    Ok(())
+}
+
+pub const SELF_JUMP: &str = "\
 jakstab-automaton 1
 entry 08048000
 loc 08048000
@@ -70,6 +114,17 @@ loc 08048000
 loc F0000000 -
 edge 08048000 F0000000 E9FB7FFBE7 jmp F0000000
 end 2 1 0
+";
+
+// A jump to the address 0, where no byte of the image is.
+const JUMP_TO_ZERO: &str = "\
+jakstab-automaton 1
+entry 08048000
+loc 00000000
+loc 08048000
+edge 08048000 00000000 E9FB7FFBF7 jmp 00000000
+open 00000000 bytes
+end 2 1 1
 ";
 
 // The `jmp` leads into itself: its second byte begins `inc eax`.
@@ -153,7 +208,7 @@ fn images_are_recovered_to_their_texts(rt: HostRuntime) -> Result<(), Fail> {
     let twelve: &[&str] = &["recover", "--k", "4", "--budget", "12", "a"];
     let eleven: &[&str] = &["recover", "a", "--k=4", "--budget=11"];
     let flat: &[&str] = &["recover", "--domain", "flat", "a"];
-    let rows: [(&[&str], &[u8], &str); 10] = [
+    let rows: [(&[&str], &[u8], &str); 11] = [
         (plain, b"\xEB\xFE", SELF_JUMP),
         (plain, b"\xEB\xFF\xC0\xF4", OVERLAP),
         (
@@ -164,6 +219,7 @@ fn images_are_recovered_to_their_texts(rt: HostRuntime) -> Result<(), Fail> {
         (plain, b"\x74\x00\xF4", JE_NEXT),
         (plain, b"\x74\x01\xE9\x90\x90\xF4\x00", JUMP_INTO_NEXT),
         (plain, b"\xE9\xFB\x7F\xFB\xE7", JUMP_TO_EXIT),
+        (plain, b"\xE9\xFB\x7F\xFB\xF7", JUMP_TO_ZERO),
         (
             plain,
             b"\xB8\x02\0\0\0\x83\xC0\x03\x83\xE8\x04\x48\x75\xFE\x74\x00\xF4",
@@ -191,8 +247,9 @@ fn images_are_recovered_to_their_texts(rt: HostRuntime) -> Result<(), Fail> {
 fn other_files_and_words_are_refused_and_write_nothing(rt: HostRuntime) -> Result<(), Fail> {
     let alloc = rt.alloc();
     let whole = file_with(alloc, b"\xEB\xFE")?;
-    let writable = form_e(alloc, b"\xEB\xFE", 7)?;
-    let rows: [(&[&str], &[u8], Status, &str); 8] = [
+    let long = changed(file_with(alloc, b"\xEB\xFE")?, 68, b"\x03");
+    let patching = form_e(alloc, b"\xC6\x05\x07\x80\x04\x08\x90\xF4", 7)?;
+    let rows: [(&[&str], &[u8], Status, &str); 9] = [
         (
             &["recover", "a"],
             b"",
@@ -213,7 +270,13 @@ fn other_files_and_words_are_refused_and_write_nothing(rt: HostRuntime) -> Resul
         ),
         (
             &["recover", "a"],
-            &writable,
+            &long,
+            Status::ImageRefused(9),
+            "jakstab: image refused 9\n",
+        ),
+        (
+            &["recover", "a"],
+            &patching,
             Status::ImageRefused(300),
             "jakstab: image refused 300\n",
         ),

@@ -19,8 +19,7 @@ pub fn jakstab<R: Threads + Sync, S: Shelf, K: Sink>(
 ) -> Status
     ensures { Answers result (record { words = map string_bytes words.now; shelf = record { held = S.contents shelf.old; faults_before = S.faults shelf.old; faults_after = S.faults shelf.new } }) (record { before = K.written out.old; after = K.written out.new; faults_before = K.faults out.old; faults_after = K.faults out.new }) (record { before = K.written note.old; after = K.written note.new; faults_before = K.faults note.old; faults_after = K.faults note.new }) }
 {
-    let _ = rt;
-    let status = deliver(due_text(alloc, words, shelf), out);
+    let status = deliver(due_text(rt, alloc, words, shelf), out);
     let _ = write_all(note, status.line().as_bytes());
     status
 }

@@ -21,3 +21,4 @@ pub mod OwnRules
 pub mod SoundOperations
 pub mod KeepingOperations
 pub mod Soundness
+pub mod BlockPlaces

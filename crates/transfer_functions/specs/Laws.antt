@@ -1,21 +1,17 @@
 -- That the expansion of an instruction stands for what the instruction does, and keeps states well.
-use Rattle.std.specs.Prelude.{ℕ, ◌≡◌, true, false, Ok, List, [], All, Contains}
+use Rattle.std.specs.Prelude.{ℕ, ◌≡◌, Ok, [], Contains}
 use Rattle.address_regions.specs.Places.{Places}
 use Rattle.domain_laws.specs.Laws.{Values}
 use Rattle.memory_map.specs.declared.choice.Choice.{Choice}
 use Rattle.memory_map.specs.Image.{Image, IsLoaded}
-use Rattle.memory_map.specs.Range.{Range, code_at}
+use Rattle.memory_map.specs.Range.{code_at}
 use Rattle.memory_map.specs.State.{MachineState, memory}
 use Rattle.x86_syntax.specs.declared.instr.Instr.{Instr}
 use Rattle.x86_semantics.specs.Does.{does}
-use Rattle.abstract_state.specs.Describes.{Describes}
+use Rattle.abstract_state.specs.Describes.{Describes, IsFixed}
 use Rattle.abstract_state.specs.Expanding.{Expanded}
 use Rattle.abstract_state.specs.State.{IsWellState, Known}
 use Rattle.transfer_functions.specs.Post.{expand_instr}
-
--- what may be executed may not be written
-abbrev pub IsFixed : List Range → Type 0
-IsFixed ranges = All (λ r. r.execute ≡ true → r.write ≡ false) ranges
 
 module _ {D : Type 0} (d : Values D) (image : Image) where
   -- some next pair has the address of the state after a step from m, is well, and describes it by the same places; the executable bytes are as they were

@@ -16,6 +16,8 @@ mod shifts;
 mod site;
 mod sound;
 mod strings;
+#[cfg(test)]
+mod tests;
 mod values;
 
 pub use expand::expand_instr;

@@ -1,98 +1,171 @@
--- Every instruction that cannot fault has a next state.
-use Rattle.std.proofs.Common.{◌≡◌, ℕ, Bool, List, Option, Some, refl, sym, ap, subst, true, false, cond}
-use Rattle.std.specs.Prelude.{Ok, MatchBool, ◌||◌}
-use Rattle.std.proofs.lemmas.Bool.{false≢true, ne_eqb, or_parts}
+-- When the machine has a next state.
+use Rattle.std.proofs.Common.{◌≡◌, ℕ, Bool, List, [], Option, Some, None, refl, sym, ap, subst, ◌∙◌, true, false, inl, inr}
+use Rattle.std.specs.Prelude.{◌≢◌, MatchBool}
+use Rattle.std.proofs.lemmas.Bool.{ne_eqb}
 use Rattle.memory_map.specs.declared.choice.Choice.{Choice}
-use Rattle.memory_map.specs.Image.{EXIT_PLACE, name_at}
+use Rattle.memory_map.specs.declared.fault.BadKind.{BadKind}
+use Rattle.memory_map.specs.declared.fault.FaultKind.{FaultKind}
+use Rattle.memory_map.specs.Image.{Image, EXIT_PLACE, name_at}
 use Rattle.memory_map.specs.State.{MachineState}
+use Rattle.stub_file.specs.declared.stub.Reply.{Reply}
+use Rattle.stub_file.specs.declared.stub.Reply.TheVariants.{Anything, Block, Enter, Never, Number}
+use Rattle.stub_file.specs.declared.stub.Stub.{Stub}
+use Rattle.stub_file.specs.Stubs.{StatedStubs}
 use Rattle.x86_syntax.specs.declared.instr.Instr.{Instr}
-use Rattle.x86_syntax.specs.declared.instr.Operand.{Operand}
-use Rattle.x86_syntax.specs.declared.instr.Operand.TheVariants.{Register, Number, Memory, Offset}
-use Rattle.x86_semantics.specs.declared.operation.Operation.{Operation}
-use Rattle.x86_semantics.specs.declared.operation.Operation.TheVariants.{Combine, Carry, Compare, Move, Convert, Lea, Exchange, Shift, MultiplyLong, Multiply, Divide, Jump, Goto, Loop, JumpIfNoCount, Call, Return, Push, Pop, Leave, Set, MoveIf, Flag, LoadStatus, StoreStatus, Element, Nothing, Stop}
-use Rattle.x86_semantics.specs.Condition.{is_met}
 use Rattle.x86_semantics.specs.Does.{done, does, result_of}
-use Rattle.x86_semantics.specs.Flow.{targeting}
-use Rattle.x86_semantics.specs.Operands.{Ended, Next, at_address, reading, writing}
+use Rattle.x86_semantics.specs.Operands.{Ended, Next, Faulted}
 use Rattle.x86_semantics.specs.Operations.{operation_of}
-use Rattle.x86_machine.specs.StepBy.{StepBy, AtName, AtInstr, stepped, exited, fetched, outcome_of}
-use Rattle.x86_machine.specs.Laws.{HasNextState, is_in_memory, may_fault}
+use Rattle.import_semantics.specs.StubDoes.{Returned, after_call, bad_of, block_of, end_by, fault_of, is_allowed, may_fail, stub_does}
+use Rattle.import_semantics.proofs.Returning.{calls_fail, calls_return}
+use Rattle.x86_machine.specs.Laws.{HasRoom, ImportsExit, ImportsFault, ImportsStep, InstructionsFault, InstructionsStep, IsAt, IsAtImport}
+use Rattle.x86_machine.specs.StepBy.{AtInstr, AtName, Outcome, StepBy, exited, faulted, fetched, import_outcome, outcome_of, outcome_of_stub, stepped, unless_never}
+use Rattle.x86_machine.proofs.Accesses.{EndsBy}
+use Rattle.x86_machine.proofs.Ending.{ends_by_fault}
 
--- how an operation ends, where it goes on
-abbrev GoesOn : Ended → Type 0
-GoesOn e = (next : MachineState) × (result_of e ≡ Ok next)
+module _ (image : Image) (stubs : StatedStubs) (choice : Choice) (m : MachineState) (outcome : Outcome) where
+  -- a step is one by the name at EIP
+  abbrev ByExit : Bool → Type 0
+  ByExit b = MatchBool b (outcome ≡ exited) (AtName stubs (name_at image m.eip) choice m outcome)
 
-reading_goes : (m : MachineState) (o : Operand) (k : ℕ → Ended) → is_in_memory o ≡ false → ((v : ℕ) → GoesOn (k v)) → GoesOn (reading m o k)
-reading_goes m (Register w r) k none each = each _
-reading_goes m (Number w n) k none each = each _
-reading_goes m (Memory w a) k none each = absurd (false≢true (sym none))
-reading_goes m (Offset o) k none each = each _
+  named_step : m.eip ≢ EXIT_PLACE → AtName stubs (name_at image m.eip) choice m outcome → StepBy image stubs choice m outcome
+  unfolding StepBy
+  named_step runs h = subst ByExit (sym (ne_eqb m.eip EXIT_PLACE runs)) h
 
-writing_goes : (m : MachineState) (o : Operand) (v : ℕ) (k : MachineState → Ended) → is_in_memory o ≡ false → ((n : MachineState) → GoesOn (k n)) → GoesOn (writing m o v k)
-writing_goes m (Register w r) v k none each = each _
-writing_goes m (Number w n) v k none each = each _
-writing_goes m (Memory w a) v k none each = absurd (false≢true (sym none))
-writing_goes m (Offset o) v k none each = each _
+  step_named : m.eip ≢ EXIT_PLACE → StepBy image stubs choice m outcome → AtName stubs (name_at image m.eip) choice m outcome
+  unfolding StepBy
+  step_named runs h = subst ByExit (ne_eqb m.eip EXIT_PLACE runs) h
 
-targeting_goes : (m : MachineState) (o : Operand) (n : ℕ) (k : ℕ → Ended) → is_in_memory o ≡ false → ((v : ℕ) → GoesOn (k v)) → GoesOn (targeting m o n k)
-targeting_goes m (Register w r) n k none each = each _
-targeting_goes m (Number w x) n k none each = each _
-targeting_goes m (Memory w a) n k none each = absurd (false≢true (sym none))
-targeting_goes m (Offset o) n k none each = each _
+  abbrev ByName : Option (List ℕ) → Type 0
+  ByName o = AtName stubs o choice m outcome
 
-either_goes : (b : Bool) (e f : Ended) → GoesOn e → GoesOn f → GoesOn (cond b e f)
-either_goes true e f h g = h
-either_goes false e f h g = g
+  abbrev ByInstr : Option (Instr × ℕ) → Type 0
+  ByInstr o = AtInstr o choice m (fetched m) outcome
 
--- an operation that cannot fault goes on
-has_next : (operation : Operation) (n : ℕ) (choice : Choice) (m : MachineState) → may_fault operation ≡ false → GoesOn (done operation n choice m)
-has_next (Combine op rule w to from) n choice m none =
-    let parts = or_parts (is_in_memory to) (is_in_memory from) none in
-    reading_goes m to _ parts.0 (λ a. reading_goes m from _ parts.1 (λ b. writing_goes m to _ _ parts.0 (λ p. (_, refl))))
-has_next (Carry op rule w to from) n choice m none =
-    let parts = or_parts (is_in_memory to) (is_in_memory from) none in
-    reading_goes m to _ parts.0 (λ a. reading_goes m from _ parts.1 (λ b. writing_goes m to _ _ parts.0 (λ p. (_, refl))))
-has_next (Compare op rule w left right) n choice m none =
-    let parts = or_parts (is_in_memory left) (is_in_memory right) none in reading_goes m left _ parts.0 (λ a. reading_goes m right _ parts.1 (λ b. (_, refl)))
-has_next (Move to from) n choice m none =
-    let parts = or_parts (is_in_memory to) (is_in_memory from) none in reading_goes m from _ parts.1 (λ v. writing_goes m to _ _ parts.0 (λ p. (_, refl)))
-has_next (Convert op w to from by) n choice m none =
-    let parts = or_parts (is_in_memory to) (is_in_memory from) none in reading_goes m from _ parts.1 (λ v. writing_goes m to _ _ parts.0 (λ p. (_, refl)))
-has_next (Lea to address) n choice m none = writing_goes m to _ _ none (λ p. (_, refl))
-has_next (Exchange place w r) n choice m none = reading_goes m place _ none (λ a. writing_goes m place _ _ none (λ p. (_, refl)))
-has_next (Shift op rule w to count) n choice m none =
-    let parts = or_parts (is_in_memory to) (is_in_memory count) none in
-    reading_goes m to _ parts.0 (λ a. reading_goes m count _ parts.1 (λ v. writing_goes m to _ _ parts.0 (λ p. (_, refl))))
-has_next (MultiplyLong high rule w from) n choice m none = reading_goes m from _ none (λ b. (_, refl))
-has_next (Multiply w r left right) n choice m none =
-    let parts = or_parts (is_in_memory left) (is_in_memory right) none in reading_goes m left _ parts.0 (λ a. reading_goes m right _ parts.1 (λ b. (_, refl)))
-has_next (Jump c offset) n choice m none = (_, refl)
-has_next (Goto target) n choice m none = targeting_goes m target n _ none (λ a. (_, refl))
-has_next (Loop kind offset) n choice m none = (_, refl)
-has_next (JumpIfNoCount offset) n choice m none = (_, refl)
-has_next (Set c to) n choice m none = writing_goes m to _ _ none (λ p. (_, refl))
-has_next (MoveIf c to from) n choice m none =
-    let parts = or_parts (is_in_memory to) (is_in_memory from) none in
-    reading_goes m from _ parts.1 (λ v. either_goes (is_met c m.flags) _ _ (writing_goes m to v _ parts.0 (λ p. (_, refl))) (_, refl))
-has_next (Flag change) n choice m none = (_, refl)
-has_next LoadStatus n choice m none = (_, refl)
-has_next StoreStatus n choice m none = (_, refl)
-has_next Nothing n choice m none = (_, refl)
-has_next (Divide signed w by) n choice m none = absurd (false≢true (sym none))
-has_next (Call target) n choice m none = absurd (false≢true (sym none))
-has_next (Return extra) n choice m none = absurd (false≢true (sym none))
-has_next (Push from) n choice m none = absurd (false≢true (sym none))
-has_next (Pop to) n choice m none = absurd (false≢true (sym none))
-has_next Leave n choice m none = absurd (false≢true (sym none))
-has_next (Element kind w seg repeat) n choice m none = absurd (false≢true (sym none))
-has_next (Stop kind) n choice m none = absurd (false≢true (sym none))
+  -- at an instruction, by what it does
+  done_step : (i : Instr) (n : ℕ) → IsAt image m i n → outcome ≡ outcome_of (result_of (done (operation_of i) n choice m)) → StepBy image stubs choice m outcome
+  unfolding does
+  done_step i n at e = named_step at.runs (subst ByName (sym at.unnamed) (subst ByInstr (sym at.found) e))
 
-pub has_next_state : HasNextState
-unfolding StepBy does
-has_next_state image choice m i n runs unnamed found none =
-    let d = has_next (operation_of i) n choice m none in
-    let at : AtInstr (Some (i, n)) choice m (fetched m) (stepped d.0) = ap outcome_of (sym d.1) in
-    let Instr_at : Option (Instr × ℕ) → Type 0 = λ o. AtInstr o choice m (fetched m) (stepped d.0) in
-    let Name_at : Option (List ℕ) → Type 0 = λ o. AtName o choice m (stepped d.0) in
-    let Exit_at : Bool → Type 0 = λ b. MatchBool b (stepped d.0 ≡ exited) (AtName (name_at image m.eip) choice m (stepped d.0)) in
-    (d.0, subst Exit_at (sym (ne_eqb m.eip EXIT_PLACE runs)) (subst Name_at (sym unnamed) (subst Instr_at (sym found) at)))
+  step_done : (i : Instr) (n : ℕ) → IsAt image m i n → StepBy image stubs choice m outcome → outcome ≡ outcome_of (result_of (done (operation_of i) n choice m))
+  unfolding does
+  step_done i n at h = subst ByInstr at.found (subst ByName at.unnamed (step_named at.runs h))
+
+-- ---- instructions
+
+clear_steps : (f : Option FaultKind) (e : Ended) → EndsBy f e → f ≡ None → (next : MachineState) × (stepped next ≡ outcome_of (result_of e))
+clear_steps None (Next n) h clear = (n, refl)
+clear_steps None (Faulted kind m) h clear = absurd h
+clear_steps (Some kind) e h clear = cc
+
+steps_clear : (f : Option FaultKind) (e : Ended) (next : MachineState) → EndsBy f e → stepped next ≡ outcome_of (result_of e) → f ≡ None
+steps_clear None e next h is = refl
+steps_clear (Some kind) (Next n) next h is = absurd h
+steps_clear (Some kind) (Faulted other m) next h is = cc
+
+held_faults : (f : Option FaultKind) (e : Ended) (kind : FaultKind) → EndsBy f e → f ≡ Some kind → faulted kind ≡ outcome_of (result_of e)
+held_faults None e kind h holds = cc
+held_faults (Some k) (Next n) kind h holds = absurd h
+held_faults (Some k) (Faulted other m) kind h holds = cc
+
+faults_held : (f : Option FaultKind) (e : Ended) (kind : FaultKind) → EndsBy f e → faulted kind ≡ outcome_of (result_of e) → f ≡ Some kind
+faults_held None (Next n) kind h is = cc
+faults_held None (Faulted other m) kind h is = absurd h
+faults_held (Some k) (Next n) kind h is = absurd h
+faults_held (Some k) (Faulted other m) kind h is = cc
+
+pub instructions_step : InstructionsStep
+instructions_step image stubs m i n at choice =
+    let ends = ends_by_fault (operation_of i) n choice m in (
+      λ clear. let s = clear_steps _ _ ends clear in (s.0, done_step image stubs choice m (stepped s.0) i n at s.1),
+      λ s. steps_clear _ _ s.0 ends (step_done image stubs choice m (stepped s.0) i n at s.1),
+    )
+
+pub instructions_fault : InstructionsFault
+instructions_fault image stubs m i n at choice kind =
+    let ends = ends_by_fault (operation_of i) n choice m in (
+      λ holds. done_step image stubs choice m (faulted kind) i n at (held_faults _ _ kind ends holds),
+      λ s. faults_held _ _ kind ends (step_done image stubs choice m (faulted kind) i n at s),
+    )
+
+-- ---- imports
+
+not_never : (r : Reply) (outcome : Outcome) → r ≢ Never → unless_never r outcome ≡ outcome
+not_never Anything outcome on = refl
+not_never (Number n) outcome on = refl
+not_never (Block size zeroed may) outcome on = refl
+not_never Never outcome on = absurd (on refl)
+not_never (Enter i) outcome on = refl
+
+-- what comes of a stub's step
+abbrev outcome_by : Stub → Choice → MachineState → Outcome
+outcome_by stub choice m = unless_never stub.reply (outcome_of_stub (stub_does stub choice m))
+
+ends_step : (image : Image) (stubs : StatedStubs) (m : MachineState) (stub : Stub) → IsAtImport image stubs m stub → (choice : Choice) (outcome : Outcome)
+    → outcome ≡ outcome_by stub choice m
+    → StepBy image stubs choice m outcome
+ends_step image stubs m stub at choice outcome e =
+    named_step image stubs choice m outcome at.runs (subst (ByName image stubs choice m outcome) (sym at.named) (e ∙ sym (ap (λ s. import_outcome s choice m) at.has_stub)))
+
+step_ends : (image : Image) (stubs : StatedStubs) (m : MachineState) (stub : Stub) → IsAtImport image stubs m stub → (choice : Choice) (outcome : Outcome)
+    → StepBy image stubs choice m outcome
+    → outcome ≡ outcome_by stub choice m
+step_ends image stubs m stub at choice outcome h =
+    subst (ByName image stubs choice m outcome) at.named (step_named image stubs choice m outcome at.runs h) ∙ ap (λ s. import_outcome s choice m) at.has_stub
+
+-- a choice of a base and a failure, with no byte
+abbrev chosen : ℕ → Bool → Choice
+chosen base fails = record { flags = 0; eax = 0; ecx = 0; edx = 0; base = base; fails = fails; fill = [] }
+
+abbrev LeadsOn : Stub → MachineState → Type 0
+LeadsOn stub m = (choice : Choice) × ((next : MachineState) × (stub_does stub choice m ≡ Returned next))
+
+without_block : (stub : Stub) (m : MachineState) (r : Reply) → stub.reply ≡ r → block_of r (chosen 0 false) m ≡ None → fault_of stub m ≡ None → LeadsOn stub m
+without_block stub m r is none clear =
+    let lies : is_allowed m (block_of stub.reply (chosen 0 false) m) ≡ true =
+    ap (λ s. is_allowed m (block_of s (chosen 0 false) m)) is ∙ ap (is_allowed m) none in
+    (chosen 0 false, calls_return stub (chosen 0 false) m (record { fails = refl; fill = refl }) lies clear)
+
+leads_on : (stub : Stub) (m : MachineState) (r : Reply) → stub.reply ≡ r → HasRoom r m → fault_of stub m ≡ None → LeadsOn stub m
+leads_on stub m Anything is room clear = without_block stub m Anything is refl clear
+leads_on stub m (Number n) is room clear = without_block stub m (Number n) is refl clear
+leads_on stub m Never is room clear = without_block stub m Never is refl clear
+leads_on stub m (Enter i) is room clear = without_block stub m (Enter i) is refl clear
+leads_on stub m (Block size zeroed may) is (inl fails) clear = (chosen 0 true, calls_fail stub (chosen 0 true) m (ap may_fail is ∙ fails) refl refl clear)
+leads_on stub m (Block size zeroed may) is (inr free) clear =
+    let lies : is_allowed m (block_of stub.reply (chosen free.0 false) m) ≡ true = ap (λ s. is_allowed m (block_of s (chosen free.0 false) m)) is ∙ free.1 in
+    (chosen free.0 false, calls_return stub (chosen free.0 false) m (record { fails = refl; fill = refl }) lies clear)
+
+returns_clear : (f : Option FaultKind) (bad : Option BadKind) (after next : MachineState) → stepped next ≡ outcome_of_stub (end_by f bad after) → f ≡ None
+returns_clear None bad after next is = refl
+returns_clear (Some kind) bad after next is = cc
+
+held_ends : (f : Option FaultKind) (bad : Option BadKind) (after : MachineState) (kind : FaultKind) → f ≡ Some kind → faulted kind ≡ outcome_of_stub (end_by f bad after)
+held_ends f bad after kind holds = sym (ap (λ g. outcome_of_stub (end_by g bad after)) holds)
+
+ends_held : (f : Option FaultKind) (bad : Option BadKind) (after : MachineState) (kind : FaultKind) → faulted kind ≡ outcome_of_stub (end_by f bad after) → f ≡ Some kind
+ends_held (Some k) bad after kind is = cc
+ends_held None (Some b) after kind is = cc
+ends_held None None after kind is = cc
+
+pub imports_step : ImportsStep
+unfolding stub_does
+imports_step image stubs m stub at on room =
+    let goes : (choice : Choice) → outcome_by stub choice m ≡ outcome_of_stub (stub_does stub choice m) = λ choice. not_never stub.reply _ on in (
+      λ clear.
+          let l = leads_on stub m stub.reply refl room clear in
+          (l.1.0, (l.0, ends_step image stubs m stub at l.0 (stepped l.1.0) (sym (ap outcome_of_stub l.1.1) ∙ sym (goes l.0)))),
+      λ s. returns_clear (fault_of stub m) (bad_of stub s.1.0 m) (after_call stub s.1.0 m) s.0 (step_ends image stubs m stub at s.1.0 (stepped s.0) s.1.1 ∙ goes s.1.0),
+    )
+
+pub imports_fault : ImportsFault
+unfolding stub_does
+imports_fault image stubs m stub at on choice kind =
+    let goes : outcome_by stub choice m ≡ outcome_of_stub (stub_does stub choice m) = not_never stub.reply _ on in (
+      λ holds. ends_step image stubs m stub at choice (faulted kind) (held_ends (fault_of stub m) (bad_of stub choice m) (after_call stub choice m) kind holds ∙ sym goes),
+      λ s. ends_held (fault_of stub m) (bad_of stub choice m) (after_call stub choice m) kind (step_ends image stubs m stub at choice (faulted kind) s ∙ goes),
+    )
+
+pub imports_exit : ImportsExit
+imports_exit image stubs m stub at never choice outcome =
+    let over : outcome_by stub choice m ≡ exited = ap (λ r. unless_never r (outcome_of_stub (stub_does stub choice m))) never in
+    (λ s. step_ends image stubs m stub at choice outcome s ∙ over, λ e. ends_step image stubs m stub at choice outcome (e ∙ sym over))

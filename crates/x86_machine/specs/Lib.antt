@@ -1,3 +1,4 @@
 pub mod StepBy
 pub mod Machine
+pub mod Faults
 pub mod Laws

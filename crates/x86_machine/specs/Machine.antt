@@ -1,8 +1,9 @@
--- The machine of an image: its steps under all choices, and the edge that each step is.
+-- The machine of an image with stubs for its imports: its steps under all choices, and the edge that each step is.
 use Rattle.std.specs.Prelude.{ℕ, List, [], Option, None, Some, take}
 use Rattle.memory_map.specs.declared.choice.Choice.{Choice}
 use Rattle.memory_map.specs.Image.{Image, name_at}
 use Rattle.memory_map.specs.State.{MachineState}
+use Rattle.stub_file.specs.Stubs.{StatedStubs}
 use Rattle.x86_syntax.specs.declared.instr.Instr.{Instr}
 use Rattle.x86_syntax.specs.Decodes.{decoded}
 use Rattle.flow_log.specs.declared.edge.Edge.{Edge}
@@ -28,8 +29,8 @@ unfoldable pub edge_of : Image → MachineState → MachineState → Edge
 edge_of image m next = record { from = m.eip; to = next.eip; label = label_at image m }
 
 -- some choice leads from the first state to the second
-abbrev pub Steps : Image → MachineState → MachineState → Type 0
-Steps image m next = (choice : Choice) × StepBy image choice m (stepped next)
+abbrev pub Steps : Image → StatedStubs → MachineState → MachineState → Type 0
+Steps image stubs m next = (choice : Choice) × StepBy image stubs choice m (stepped next)
 
-abbrev pub machine_of : Image → Machine MachineState Edge
-machine_of image = record { place = λ m. m.eip; Steps = Steps image; edge = edge_of image }
+abbrev pub machine_of : Image → StatedStubs → Machine MachineState Edge
+machine_of image stubs = record { place = λ m. m.eip; Steps = Steps image stubs; edge = edge_of image }

@@ -1,6 +1,16 @@
-ghost use Rattle.x86_machine.specs.Laws.{HasNextState};
+ghost use Rattle.x86_machine.specs.Laws.{ImportsExit, ImportsFault, ImportsStep, InstructionsFault, InstructionsStep};
 
-/// A law: at every instruction that touches no memory, does not divide and does not stop the machine, there is a next state under every choice.
+/// A law: at every instruction there is a next state exactly where none of its faults holds, under every choice; else its fault is the first of them.
 pub fn instructions_have_next_states()
-    ensures { HasNextState }
+    ensures next { InstructionsStep }
+    ensures faults { InstructionsFault }
+{}
+
+/// A law: at an import whose stub returns or enters a function there is a next state, under some choice, exactly where none of the stub's faults holds,
+/// if there is room for a block that it must hand out; where one holds, the first of them is its fault under every choice. A stub that never returns has
+/// exited.
+pub fn imports_have_next_states()
+    ensures next { ImportsStep }
+    ensures faults { ImportsFault }
+    ensures exits { ImportsExit }
 {}

@@ -12,7 +12,7 @@ unfolding marks_by
 returns g c =
     let log = c.args.log.now in
     pushed_three open_mark
-    (location_marks (location_causes c.args.image.now log.writes) log.rows)
+    (location_marks (location_causes c.args.image.now c.args.stubs.now log.writes) log.rows)
     (filter_map (expansion_mark log.rows) log.causes)
     (unexpanded_marks Budget log.rows)
     c.new-found.result.items c.push_location_marks.new.out.items c.push_expansion_marks.new.out.items c.push_unexpanded_marks.new.out.items

@@ -9,7 +9,7 @@ use Rattle.flow_worklist.proofs.automaton.push_location_marks.Goals as goal
 
 pub loop-row-preserved : goal.loop-row-preserved
 loop-row-preserved g c =
-    let f = location_causes c.args.image.now c.args.writes.now in
+    let f = location_causes c.args.image.now c.args.stubs.now c.args.writes.now in
     let row = c.row-item.result in
     let rows = c.args.rows.now in
     let i = c.loop-row.row-index in
@@ -23,6 +23,6 @@ loop-row-preserved g c =
 
 pub returns : goal.returns
 returns g c =
-    let f = location_causes c.args.image.now c.args.writes.now in
+    let f = location_causes c.args.image.now c.args.stubs.now c.args.writes.now in
     c.loop-row.invariant
     ∙ ap (λ l. c.args.out.now.items ++ map open_mark (location_marks f l)) (take_all c.loop-row.row-index c.args.rows.now (omega (arith, c.loop-row-test.false)))

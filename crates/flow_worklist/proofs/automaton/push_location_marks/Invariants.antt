@@ -5,4 +5,4 @@ use Rattle.flow_worklist.specs.Analysis.{open_mark}
 use Rattle.flow_worklist.proofs.automaton.push_location_marks.Given as goal
 
 abbrev pub invariant-loop-row : goal.invariant-loop-row
-invariant-loop-row g l = l.out.items ≡ l.initial.out.items ++ map open_mark (location_marks (location_causes l.image l.writes) (take l.row-index l.rows))
+invariant-loop-row g l = l.out.items ≡ l.initial.out.items ++ map open_mark (location_marks (location_causes l.image l.stubs l.writes) (take l.row-index l.rows))

@@ -8,6 +8,6 @@ use Rattle.flow_worklist.proofs.exploring.explore.Given as goal
 abbrev pub invariant-loop-n : goal.invariant-loop-n
 invariant-loop-n g l = record {
   indexed : IsIndexed (values_of g.D.Domain g.D.PartialEq.eq) l.exploration;
-  log : explored (analysis_of (values_of g.D.Domain g.D.PartialEq.eq) l.image l.limits.k) l.limits.budget (l.limits.budget - l.n) l.n (log_in l.exploration)
-      ≡ image_log (values_of g.D.Domain g.D.PartialEq.eq) l.image l.limits.k l.limits.budget;
+  log : explored (analysis_of (values_of g.D.Domain g.D.PartialEq.eq) l.image l.stubs l.limits.k) l.limits.budget (l.limits.budget - l.n) l.n (log_in l.exploration)
+      ≡ image_log (values_of g.D.Domain g.D.PartialEq.eq) l.image l.stubs l.limits.k l.limits.budget;
 }

@@ -13,18 +13,18 @@ pub automaton_of-requires : goal.automaton_of-requires
 automaton_of-requires g c =
     let P : ImageLog g.row.D.Denot → Type 0 = λ log. 0 < length log.rows in
     let some : 0 < length c.in_ok-log.log.rows =
-    subst P (sym c.in_ok-log.ensures) (log_has_row (values_of g.D.Domain g.D.PartialEq.eq) c.args.image.now c.args.limits.k c.args.limits.budget) in
+    subst P (sym c.in_ok-log.ensures) (log_has_row (values_of g.D.Domain g.D.PartialEq.eq) c.args.image.now c.args.stubs.now c.args.limits.k c.args.limits.budget) in
     search (rules, some)
 
 pub print_automaton-requires : goal.print_automaton-requires
 print_automaton-requires g c =
     let P : Automaton → Type 0 = λ a. AreSpelled a.edges in
-    subst P (sym (c.in_ok-automaton.ensures ∙ ap (automaton_of c.args.image.now) c.in_ok-log.ensures))
-    (automaton_spelled (values_of g.D.Domain g.D.PartialEq.eq) c.args.image.now c.args.limits.k c.args.limits.budget)
+    subst P (sym (c.in_ok-automaton.ensures ∙ ap (automaton_of c.args.image.now c.args.stubs.now) c.in_ok-log.ensures))
+    (automaton_spelled (values_of g.D.Domain g.D.PartialEq.eq) c.args.image.now c.args.stubs.now c.args.limits.k c.args.limits.budget)
 
 pub returns : goal.returns
 unfolding log_text
 returns g c =
     IfOk-weaker c.print_automaton.result _ _
-    (λ text same. same ∙ ap text_of (c.in_ok-automaton.ensures ∙ ap (automaton_of c.args.image.now) c.in_ok-log.ensures))
+    (λ text same. same ∙ ap text_of (c.in_ok-automaton.ensures ∙ ap (automaton_of c.args.image.now c.args.stubs.now) c.in_ok-log.ensures))
     c.print_automaton.ensures

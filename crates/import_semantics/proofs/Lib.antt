@@ -1,0 +1,4 @@
+pub mod Returning
+pub mod Freedom
+pub mod Entering
+pub mod WorkedCalls

@@ -1,0 +1,3 @@
+pub mod StubDoes
+pub mod Laws
+pub mod WorkedCalls

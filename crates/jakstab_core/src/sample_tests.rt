@@ -1,0 +1,207 @@
+use crate::sample_files::{DAYS, GREET, square};
+use crate::tests::check_text;
+use std::test::Fail;
+
+const DAYS_LIST: &str = "\
+jakstab-list 1
+format elf32
+entry 08048100
+segment 08048000 0000015C r-x
+end
+";
+
+const GREET_LIST: &str = "\
+jakstab-list 1
+format elf32
+entry 080481E0
+segment 08048000 0000022C r-x
+segment 0804922C 000000A0 rw-
+import F0000010 puts nostub
+import F0000020 malloc stub
+import F0000030 exit stub
+end
+";
+
+const SQUARE_LIST: &str = "\
+jakstab-list 1
+format pe32
+entry 00401000
+segment 00400000 00000200 r--
+segment 00401000 00000040 r-x
+segment 00402000 00000078 rw-
+import F0000010 ExitProcess nostub
+import F0000020 GetTickCount nostub
+end
+";
+
+// The steps that a processor took when it ran the program one by one, up to its `hlt`.
+const DAYS_AUTOMATON: &str = "\
+jakstab-automaton 1
+entry 08048100
+loc 08048074
+loc 08048075
+loc 08048077
+loc 0804807B
+loc 0804807D
+loc 08048080
+loc 08048083
+loc 08048088
+loc 0804808A
+loc 0804808C
+loc 08048090
+loc 08048092
+loc 08048097
+loc 08048099
+loc 0804809E
+loc 080480A0
+loc 080480A5
+loc 080480A7
+loc 080480AC
+loc 080480AE
+loc 080480B3
+loc 080480B5
+loc 080480BA
+loc 080480BC
+loc 080480C1
+loc 080480C8
+loc 080480C9
+loc 080480CA
+loc 080480CB
+loc 080480CD
+loc 080480D0
+loc 080480D7
+loc 080480DE
+loc 080480E0
+loc 080480E3
+loc 080480E6
+loc 080480EB
+loc 080480EE
+loc 080480F1
+loc 080480F5
+loc 080480F9
+loc 080480FB
+loc 080480FE
+loc 080480FF
+loc 08048100
+loc 08048101
+loc 08048103
+loc 08048106
+loc 08048108
+loc 0804810D
+loc 08048110
+loc 08048113
+loc 08048115
+loc 0804811A
+loc 0804811D
+loc 08048120
+loc 08048123
+loc 08048126
+edge 08048074 08048075 55 push ebp
+edge 08048075 08048077 89E5 mov ebp, esp
+edge 08048077 0804807B 837D080B cmp dword [ebp+00000008], 0000000B
+edge 0804807B 0804807D 7746 ja 080480C3
+edge 0804807D 08048080 8B4508 mov eax, dword [ebp+00000008]
+edge 08048080 08048083 C1E002 shl eax, 02
+edge 08048083 08048088 052C810408 add eax, 0804812C
+edge 08048088 0804808A 8B00 mov eax, dword [eax]
+edge 0804808A 0804808C FFE0 jmp eax
+edge 0804808A 080480A0 FFE0 jmp eax
+edge 0804808A 080480A7 FFE0 jmp eax
+edge 0804808A 080480AE FFE0 jmp eax
+edge 0804808A 080480B5 FFE0 jmp eax
+edge 0804808A 080480BC FFE0 jmp eax
+edge 0804808C 08048090 837D0C00 cmp dword [ebp+0000000C], 00000000
+edge 08048090 08048092 7407 je 08048099
+edge 08048090 08048099 7407 je 08048099
+edge 08048092 08048097 B81D000000 mov eax, 0000001D
+edge 08048097 080480C8 EB2F jmp 080480C8
+edge 08048099 0804809E B81C000000 mov eax, 0000001C
+edge 0804809E 080480C8 EB28 jmp 080480C8
+edge 080480A0 080480A5 B81E000000 mov eax, 0000001E
+edge 080480A5 080480C8 EB21 jmp 080480C8
+edge 080480A7 080480AC B81E000000 mov eax, 0000001E
+edge 080480AC 080480C8 EB1A jmp 080480C8
+edge 080480AE 080480B3 B81E000000 mov eax, 0000001E
+edge 080480B3 080480C8 EB13 jmp 080480C8
+edge 080480B5 080480BA B81E000000 mov eax, 0000001E
+edge 080480BA 080480C8 EB0C jmp 080480C8
+edge 080480BC 080480C1 B81F000000 mov eax, 0000001F
+edge 080480C1 080480C8 EB05 jmp 080480C8
+edge 080480C8 080480C9 5D pop ebp
+edge 080480C9 080480EB C3 ret
+edge 080480CA 080480CB 55 push ebp
+edge 080480CB 080480CD 89E5 mov ebp, esp
+edge 080480CD 080480D0 83EC10 sub esp, 00000010
+edge 080480D0 080480D7 C745FC00000000 mov dword [ebp+FFFFFFFC], 00000000
+edge 080480D7 080480DE C745F800000000 mov dword [ebp+FFFFFFF8], 00000000
+edge 080480DE 080480F5 EB15 jmp 080480F5
+edge 080480E0 080480E3 FF7508 push dword [ebp+00000008]
+edge 080480E3 080480E6 FF75F8 push dword [ebp+FFFFFFF8]
+edge 080480E6 08048074 E889FFFFFF call 08048074
+edge 080480EB 080480EE 83C408 add esp, 00000008
+edge 080480EE 080480F1 0145FC add dword [ebp+FFFFFFFC], eax
+edge 080480F1 080480F5 8345F801 add dword [ebp+FFFFFFF8], 00000001
+edge 080480F5 080480F9 837DF80B cmp dword [ebp+FFFFFFF8], 0000000B
+edge 080480F9 080480E0 7EE5 jle 080480E0
+edge 080480F9 080480FB 7EE5 jle 080480E0
+edge 080480FB 080480FE 8B45FC mov eax, dword [ebp+FFFFFFFC]
+edge 080480FE 080480FF C9 leave
+edge 080480FF 0804810D C3 ret
+edge 080480FF 0804811A C3 ret
+edge 08048100 08048101 55 push ebp
+edge 08048101 08048103 89E5 mov ebp, esp
+edge 08048103 08048106 83EC10 sub esp, 00000010
+edge 08048106 08048108 6A00 push 00000000
+edge 08048108 080480CA E8BDFFFFFF call 080480CA
+edge 0804810D 08048110 83C404 add esp, 00000004
+edge 08048110 08048113 8945FC mov dword [ebp+FFFFFFFC], eax
+edge 08048113 08048115 6A01 push 00000001
+edge 08048115 080480CA E8B0FFFFFF call 080480CA
+edge 0804811A 0804811D 83C404 add esp, 00000004
+edge 0804811D 08048120 8945F8 mov dword [ebp+FFFFFFF8], eax
+edge 08048120 08048123 8B45FC mov eax, dword [ebp+FFFFFFFC]
+edge 08048123 08048126 8B55F8 mov edx, dword [ebp+FFFFFFF8]
+end 58 65 0
+";
+
+const GREET_AUTOMATON: &str = "\
+jakstab-automaton 1
+entry 080481E0
+loc 080481C0
+loc 080481E0
+loc 080481E3
+loc 080481E5
+loc F0000020 malloc
+edge 080481C0 F0000020 FF25C4920408 jmp dword [080492C4]
+edge 080481E0 080481E3 83EC18 sub esp, 00000018
+edge 080481E3 080481E5 6A10 push 00000010
+edge 080481E5 080481C0 E8D6FFFFFF call 080481C0
+open F0000020 nostub
+end 5 4 1
+";
+
+const SQUARE_AUTOMATON: &str = "\
+jakstab-automaton 1
+entry 00401000
+loc 00401000
+loc 00401003
+loc F0000020 GetTickCount
+edge 00401000 00401003 83EC1C sub esp, 0000001C
+edge 00401003 F0000020 FF1538204000 call dword [00402038]
+open F0000020 nostub
+end 3 2 1
+";
+
+#[test]
+fn samples_are_listed_and_recovered(rt: HostRuntime) -> Result<(), Fail> {
+    let alloc = rt.alloc();
+    let square = square(alloc)?;
+    let list: &[&str] = &["list", "--stubs", "s", "i"];
+    let recover: &[&str] = &["recover", "i"];
+    check_text(&rt, alloc, list, &DAYS, DAYS_LIST)?;
+    check_text(&rt, alloc, list, &GREET, GREET_LIST)?;
+    check_text(&rt, alloc, list, &square, SQUARE_LIST)?;
+    check_text(&rt, alloc, recover, &DAYS, DAYS_AUTOMATON)?;
+    check_text(&rt, alloc, recover, &GREET, GREET_AUTOMATON)?;
+    check_text(&rt, alloc, recover, &square, SQUARE_AUTOMATON)
+}
