@@ -66,3 +66,10 @@ module _ {S E C W M : Type 0} (a : Analysis S E C W) (machine : Machine M E) (Is
     λ shut. let stepped : IsStepped m next = step_known m next known shut run.0 in
         (stepped.edge, run_follows next rest stepped.known run.1),
   )
+
+-- what is known of each state of a run may be said by less
+pub follows_weaker : {M E : Type 0} (machine : Machine M E) (Before After : M → Type 0) (Open : ℕ → Type 0) (edges : List E) → ((m : M) → Before m → After m)
+    → (m : M) (states : List M) → Follows machine Before Open edges m states → Follows machine After Open edges m states
+follows_weaker machine Before After Open edges less m [] f = less m f
+follows_weaker machine Before After Open edges less m (next ∷ rest) f =
+    (less m f.0, λ shut. let step = f.1 shut in (step.0, follows_weaker machine Before After Open edges less next rest step.1))

@@ -11,7 +11,7 @@ use Rattle.flow_log.specs.Log.{Log, Row, Mark, log_of, marks_by}
 use Rattle.flow_log.specs.Ordered.{ordered_set}
 use Rattle.flow_log.specs.Orders.{edge_cmp}
 use Rattle.x86_machine.specs.Machine.{label_by}
-use Rattle.automaton_text.specs.Orders.{mark_cmp, first_marks}
+use Rattle.automaton_text.specs.Orders.{first_marks}
 use Rattle.automaton_text.specs.declared.automaton.Automaton.{Automaton}
 use Rattle.automaton_text.specs.declared.automaton.Location.{Location}
 use Rattle.automaton_text.specs.declared.automaton.OpenMark.{OpenMark}
@@ -78,5 +78,5 @@ automaton_of image log = record {
   entry = entry_of log.rows;
   locations = map (location_of image) (ordered_set nat_cmp (map (λ row. row.location) log.rows));
   edges = ordered_set edge_cmp log.edges;
-  marks = first_marks (ordered_set mark_cmp (map open_mark (marks_by causes.Budget log)));
+  marks = first_marks (map open_mark (marks_by causes.Budget log));
 }

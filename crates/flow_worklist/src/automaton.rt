@@ -7,7 +7,7 @@ ghost use Rattle.flow_worklist.specs.Exploring.{cause_unexpanded};
 
 use crate::log::location_at;
 use crate::{Log, Row};
-use automaton_text::{Automaton, Location, OpenMark, first_marks, sorted_marks};
+use automaton_text::{Automaton, Location, OpenMark, first_marks};
 use bit_words::NoMemory;
 use domain_laws::Domain;
 use flow_log::{Cause, Edge, sorted_edges, sorted_set};
@@ -28,7 +28,7 @@ pub fn automaton_of<D: Domain>(
     let entry = log.rows()[0].location();
     let locations = locations(alloc, image, log.rows())?;
     let edges = sorted_edges(copies(alloc, log.edges())?);
-    let marks = first_marks(sorted_marks(marks(alloc, log)?));
+    let marks = first_marks(marks(alloc, log)?);
     Ok(Automaton {
         version: 2,
         entry,
