@@ -1,8 +1,8 @@
 -- The edges of a log of an image are labelled by spellings, and the log has a row.
 use Rattle.std.proofs.Common.{◌≡◌, ℕ, zero, suc, ◌+◌, ◌<◌, Bool, true, false, List, [], ◌∷◌, length, Option, Some, None, refl, sym, ap, subst, ◌==◌}
 use Rattle.std.specs.Option.{IsSome}
-use Rattle.std.specs.Prelude.{Contains, All, slice_get}
-use Rattle.std.proofs.lemmas.List.Elements.{All-push, All-nil, All-weaker, All-contains, All-contains_itself}
+use Rattle.std.specs.Prelude.{Contains, All, is_some, map, slice_get}
+use Rattle.std.proofs.lemmas.List.Elements.{All-cons, All-map, All-push, All-nil, All-weaker, All-contains, All-contains_itself}
 use Rattle.std.proofs.lemmas.Option.{slice_get_within}
 use Rattle.memory_map.specs.Image.{Image, name_at}
 use Rattle.x86_syntax.specs.declared.instr.Instr.{Instr}
@@ -12,14 +12,18 @@ use Rattle.flow_log.specs.declared.edge.Edge.{Edge}
 use Rattle.flow_log.specs.declared.edge.Label.{Label}
 use Rattle.flow_log.specs.declared.edge.Label.TheVariants as labels
 use Rattle.flow_log.specs.contracts.edge.EdgeOrd.TheImpl as edges
-use Rattle.flow_log.specs.Log.{Row, with_next_pair, with_next_pairs, with_notes, with_expansion, at_row, explored, log_of, first_log, row_after}
+use Rattle.flow_log.specs.declared.cause.Cause.{Cause}
+use Rattle.flow_log.specs.declared.cause.Cause.TheVariants as causes
+use Rattle.flow_log.specs.Log.{Mark, Row, marks_by, with_next_pair, with_next_pairs, with_notes, with_expansion, at_row, explored, log_of, first_log, row_after}
 use Rattle.flow_log.specs.Ordered.{ordered_set}
 use Rattle.flow_log.specs.Orders.{edge_cmp}
 use Rattle.flow_log.proofs.Members.{Contains-here, Contains-later, Contains-none}
 use Rattle.flow_log.proofs.Growing.{Grows, row_kept, explored-grows}
 use Rattle.flow_log.proofs.Ordering.{ordered_set-is, IsSetOf}
 use Rattle.flow_log.proofs.Orders.{derived_exact, edge_sets}
-use Rattle.automaton_text.specs.Text.{IsSpelled, AreSpelled}
+use Rattle.automaton_text.specs.Orders.{first_marks}
+use Rattle.automaton_text.specs.Text.{IsSpelled, AreSpelled, HaveRowsBy}
+use Rattle.automaton_text.proofs.Firsts.{Contains-from_first_marks}
 use Rattle.x86_machine.specs.Machine.{label_by, instr_bytes}
 use Rattle.stub_file.specs.Stubs.{StatedStubs}
 use Rattle.domain_laws.specs.Laws.{Values}
@@ -28,7 +32,7 @@ use Rattle.flow_worklist.specs.declared.site.Site.{Site}
 use Rattle.flow_worklist.specs.declared.site.Site.TheVariants.{Exit, Import, Code}
 use Rattle.transfer_functions.specs.KnownCode.{known_run}
 use Rattle.flow_worklist.specs.Post.{post, site_at}
-use Rattle.flow_worklist.specs.Analysis.{ImageLog, analysis_of, image_log, automaton_of, edge_from, widened_by}
+use Rattle.flow_worklist.specs.Analysis.{ImageLog, analysis_of, image_log, automaton_of, edge_from, open_mark, widened_by}
 use Rattle.flow_worklist.proofs.Posting.{no_pair, import_named, code_unnamed, post_is, post_code_is}
 
 module _ {D : Type 0} (d : Values D) (image : Image) (stubs : StatedStubs) (k : ℕ) where
@@ -107,3 +111,17 @@ module _ {D : Type 0} (d : Values D) (image : Image) (stubs : StatedStubs) (k : 
       All-weaker (Contains (ordered_set edge_cmp log.edges)) Spelled
       (λ e held. All-contains Spelled log.edges e (log_spelled budget) (in_log log.edges e held))
       (ordered_set edge_cmp log.edges) (All-contains_itself (ordered_set edge_cmp log.edges))
+
+  -- the marks of the automaton have rows
+  pub automaton_rows : (budget : ℕ) → HaveRowsBy 2 (automaton_of image (image_log d image stubs k budget)).marks
+  unfolding automaton_of
+  automaton_rows budget =
+      let log = image_log d image stubs k budget in
+      let found = map open_mark (marks_by causes.Budget log) in
+      All-weaker (Contains (first_marks found)) (λ m. is_some m.row ≡ true)
+      (λ m held. All-contains (λ m. is_some m.row ≡ true) found m (All-map (λ m. is_some m.row ≡ true) open_mark (marks_by causes.Budget log) (All-any (marks_by causes.Budget log))) (Contains-from_first_marks found m held))
+      (first_marks found) (All-contains_itself (first_marks found))
+    where
+      All-any : (xs : List (Mark Cause)) → All (λ m. is_some (open_mark m).row ≡ true) xs
+      All-any [] = All-nil (λ m. is_some (open_mark m).row ≡ true)
+      All-any (x ∷ xs) = All-cons (λ m. is_some (open_mark m).row ≡ true) x xs refl (All-any xs)
