@@ -43,7 +43,7 @@ module _ {D : Type 0} (d : Values D) (l : IsLawful d) (image : Image) (stubs : S
   follows m states start run =
       run_follows analysis (machine_of image stubs) (IsWellState d) (IsDescribed d image) sound rows log.edges (IsOpen analysis log) (log_closed analysis budget) well m states
       (start_known analysis (machine_of image stubs) (IsWellState d) (IsDescribed d image) sound rows log.edges (IsOpen analysis log) (log_closed analysis budget) well m start.entry
-          (starts-are_described d l image m loaded start))
+      (starts-are_described d l image m loaded start))
       run
 
   known_to : (m : MachineState) → IsInRows m → IsKnownTo d image log m
