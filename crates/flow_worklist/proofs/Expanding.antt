@@ -1,5 +1,5 @@
 -- The code's steps on a log are those of the definition.
-use Rattle.std.proofs.Common.{◌≡◌, ℕ, zero, suc, ◌+◌, ◌<◌, List, [], ◌∷◌, ◌++◌, length, take, get_or, Option, Some, None, inl, inr, refl, sym, ◌∙◌, ap, subst}
+use Rattle.std.proofs.Common.{◌≡◌, ℕ, zero, suc, ◌+◌, ◌<◌, List, [], ◌∷◌, ◌++◌, length, take, get_or, Option, Some, None, inl, inr, refl, sym, ◌∙◌, ap}
 use Rattle.std.specs.Prelude.{fold, slice_get}
 use Rattle.std.proofs.lemmas.List.{take_more}
 use Rattle.stub_file.specs.Stubs.{StatedStubs}
@@ -11,7 +11,6 @@ use Rattle.flow_log.specs.Log.{Row, with_next_pairs, with_notes, with_expansion,
 use Rattle.abstract_state.specs.State.{Known, covers_state}
 use Rattle.abstract_state.specs.Expanding.{Expanded}
 use Rattle.flow_worklist.specs.declared.post.Post.{Post}
-use Rattle.flow_worklist.specs.Post.{post}
 use Rattle.flow_worklist.specs.PostOf.{IsLabelled, IsPostOf, IsPostOfRow}
 use Rattle.flow_worklist.specs.Analysis.{ImageLog, analysis_of, image_log, edge_by, edge_from, widened_by}
 

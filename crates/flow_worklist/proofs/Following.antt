@@ -1,6 +1,6 @@
 -- The theorem on logs, of the log of an image.
-use Rattle.std.proofs.Common.{◌≡◌, ℕ, List, map}
-use Rattle.std.specs.Prelude.{All, Contains}
+use Rattle.std.proofs.Common.{ℕ, List, map}
+use Rattle.std.specs.Prelude.{All}
 use Rattle.domain_laws.specs.Laws.{Values, IsLawful}
 use Rattle.memory_map.specs.Image.{Image, IsLoaded}
 use Rattle.memory_map.specs.Start.{Start}

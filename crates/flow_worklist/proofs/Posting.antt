@@ -1,6 +1,6 @@
 -- What an image has at an address, and the expansion of a row there.
 use Rattle.std.proofs.Common.{◌≡◌, ℕ, Bool, true, false, List, [], take, cond, Option, Some, None, refl, sym, ◌∙◌, ap, subst, ◌==◌, inl, inr}
-use Rattle.std.proofs.lemmas.Bool.{eq-eqb, ne_eqb}
+use Rattle.std.proofs.lemmas.Bool.{eq-eqb}
 use Rattle.std.specs.Prelude.{Contains, IfOk, Result, Ok, Err}
 use Rattle.std.specs.Option.{IsSome, option_map_or}
 use Rattle.domain_laws.specs.Laws.{Values}
@@ -14,7 +14,6 @@ use Rattle.x86_decoder.specs.declared.fault.DecodeFault.TheVariants.{NotListed, 
 use Rattle.x86_decoder.specs.Refusals.{Refused, is_truncated}
 use Rattle.x86_decoder.proofs.Fronts.{goes_on_front, not_both}
 use Rattle.flow_log.specs.declared.cause.Cause.TheVariants as causes
-use Rattle.flow_log.specs.declared.edge.Label.{Label}
 use Rattle.flow_log.specs.declared.edge.Label.TheVariants as labels
 use Rattle.x86_machine.specs.Machine.{label_by, instr_bytes}
 use Rattle.abstract_state.specs.State.{Known}

@@ -1,5 +1,5 @@
 -- The edges of a log of an image are labelled by spellings, and the log has a row.
-use Rattle.std.proofs.Common.{◌≡◌, ℕ, zero, suc, ◌+◌, ◌<◌, Bool, true, false, List, [], ◌∷◌, length, Option, Some, None, refl, sym, ap, subst, ◌==◌}
+use Rattle.std.proofs.Common.{◌≡◌, ℕ, zero, suc, ◌+◌, ◌<◌, true, List, [], ◌∷◌, length, Option, Some, None, refl, sym, ap, subst}
 use Rattle.std.specs.Option.{IsSome}
 use Rattle.std.specs.Prelude.{Contains, All, is_some, map, slice_get}
 use Rattle.std.proofs.lemmas.List.Elements.{All-cons, All-map, All-push, All-nil, All-weaker, All-contains, All-contains_itself}
@@ -9,15 +9,14 @@ use Rattle.x86_syntax.specs.declared.instr.Instr.{Instr}
 use Rattle.x86_syntax.specs.Decodes.{Decodes, decoded}
 use Rattle.x86_syntax.proofs.DecodesLemmas.{decoded_finds}
 use Rattle.flow_log.specs.declared.edge.Edge.{Edge}
-use Rattle.flow_log.specs.declared.edge.Label.{Label}
 use Rattle.flow_log.specs.declared.edge.Label.TheVariants as labels
 use Rattle.flow_log.specs.contracts.edge.EdgeOrd.TheImpl as edges
 use Rattle.flow_log.specs.declared.cause.Cause.{Cause}
 use Rattle.flow_log.specs.declared.cause.Cause.TheVariants as causes
-use Rattle.flow_log.specs.Log.{Mark, Row, marks_by, with_next_pair, with_next_pairs, with_notes, with_expansion, at_row, explored, log_of, first_log, row_after}
+use Rattle.flow_log.specs.Log.{Mark, marks_by, with_next_pair, with_next_pairs, with_notes, with_expansion, at_row, explored, log_of, first_log, row_after}
 use Rattle.flow_log.specs.Ordered.{ordered_set}
 use Rattle.flow_log.specs.Orders.{edge_cmp}
-use Rattle.flow_log.proofs.Members.{Contains-here, Contains-later, Contains-none}
+use Rattle.flow_log.proofs.Members.{Contains-here, Contains-later}
 use Rattle.flow_log.proofs.Growing.{Grows, row_kept, explored-grows}
 use Rattle.flow_log.proofs.Ordering.{ordered_set-is, IsSetOf}
 use Rattle.flow_log.proofs.Orders.{derived_exact, edge_sets}

@@ -1,5 +1,5 @@
 -- The analysis of an image is sound for the machine that runs it, over every domain.
-use Rattle.std.proofs.Common.{◌≡◌, ℕ, ◌+◌, ◌<◌, ◌≤◌, Bool, true, false, List, [], ◌∷◌, length, take, get_or, Option, Some, None, refl, sym, ◌∙◌, ap, subst, ◌==◌, inl, inr, arith}
+use Rattle.std.proofs.Common.{◌≡◌, ℕ, ◌+◌, ◌<◌, Bool, true, false, List, [], ◌∷◌, length, take, get_or, Option, Some, None, refl, sym, ◌∙◌, ap, subst, ◌==◌, inl, inr, arith}
 use Rattle.std.specs.Prelude.{Contains, Result, Ok, Err, MatchBool, slice_get, ◌⊎◌}
 use Rattle.std.proofs.lemmas.Option.{slice_get-get_or}
 use Rattle.address_regions.specs.Places.{Places}
@@ -17,7 +17,7 @@ use Rattle.stub_file.specs.declared.stub.Reply.TheVariants.{Anything, Block, Ent
 use Rattle.stub_file.specs.declared.stub.Stub.{Stub}
 use Rattle.stub_file.specs.Stubs.{StatedStubs, stub_named}
 use Rattle.import_semantics.specs.StubDoes.{StubEnd, Bad, Faulted, Returned, stub_does}
-use Rattle.x86_machine.specs.StepBy.{Outcome, StepBy, AtName, AtInstr, stepped, exited, fetched, import_outcome, outcome_of, outcome_of_stub, unless_never}
+use Rattle.x86_machine.specs.StepBy.{StepBy, AtName, AtInstr, stepped, exited, fetched, import_outcome, outcome_of, outcome_of_stub, unless_never}
 use Rattle.x86_machine.specs.Machine.{machine_of, edge_of, label_at, label_by, instr_bytes}
 use Rattle.flow_log.specs.declared.cause.Cause.{Cause}
 use Rattle.flow_log.specs.declared.edge.Label.TheVariants as labels
@@ -41,7 +41,7 @@ use Rattle.import_stubs.proofs.SoundStubs.{stub-is_sound}
 use Rattle.flow_worklist.specs.declared.site.Site.{Site}
 use Rattle.flow_worklist.specs.declared.site.Site.TheVariants.{Exit, Import, Code}
 use Rattle.transfer_functions.specs.Fetching.{is_cut, known_run}
-use Rattle.flow_worklist.specs.Post.{post, post_code, site_at, unlisted_cause}
+use Rattle.flow_worklist.specs.Post.{post, site_at, unlisted_cause}
 use Rattle.flow_worklist.specs.Analysis.{analysis_of, edge_from, widened_by}
 use Rattle.flow_worklist.proofs.Posting.{no_pair, expand-named, expand-unnamed, site-code, site-import, post_is, post_code_is}
 use Rattle.flow_worklist.proofs.Fetching.{run_agrees, decoded_agrees}

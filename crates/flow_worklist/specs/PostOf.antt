@@ -1,5 +1,5 @@
 -- What the code's answer on a row says of its expansion.
-use Rattle.std.specs.Prelude.{ℕ, ◌≡◌, ◌⊎◌, List, [], Option, Some, None}
+use Rattle.std.specs.Prelude.{ℕ, ◌≡◌, ◌⊎◌, [], Option, Some, None}
 use Rattle.domain_laws.specs.Laws.{Values}
 use Rattle.memory_map.specs.Image.{Image, name_at}
 use Rattle.x86_syntax.specs.Decodes.{decoded}

@@ -1,5 +1,5 @@
 -- The mark of one more row.
-use Rattle.std.proofs.Common.{◌++◌, ◌+◌, ◌<◌, length, take, map, ap, sym, ◌∙◌, append_assoc, arith}
+use Rattle.std.proofs.Common.{◌++◌, ◌<◌, length, take, map, ap, sym, ◌∙◌, append_assoc, arith}
 use Rattle.std.specs.Prelude.{option_to_list}
 use Rattle.flow_log.specs.declared.cause.Cause.TheVariants.{Budget}
 use Rattle.flow_log.specs.Log.{unexpanded_marks}

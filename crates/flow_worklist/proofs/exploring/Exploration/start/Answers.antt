@@ -8,7 +8,7 @@ use Rattle.domain_laws.specs.Made.{values_of}
 use Rattle.flow_log.specs.Log.{Row}
 use Rattle.abstract_state.specs.State.{Known}
 use Rattle.abstract_state.specs.Widening.{seen_with}
-use Rattle.flow_worklist.specs.Exploring.{IsOf, IsIndexed}
+use Rattle.flow_worklist.specs.Exploring.{IsOf}
 use Rattle.flow_worklist.proofs.Indexing.{is_new, is_more, kept_put, row_there}
 use Rattle.flow_worklist.proofs.exploring.Exploration.start.Goals as goal
 
