@@ -249,7 +249,7 @@ fn other_files_and_words_are_refused_and_write_nothing(rt: HostRuntime) -> Resul
     let whole = file_with(alloc, b"\xEB\xFE")?;
     let long = changed(file_with(alloc, b"\xEB\xFE")?, 68, b"\x03");
     let patching = form_e(alloc, b"\xC6\x05\x07\x80\x04\x08\x90\xF4", 7)?;
-    let rows: [(&[&str], &[u8], Status, &str); 9] = [
+    let rows: [(&[&str], &[u8], Status, &str); 10] = [
         (
             &["recover", "a"],
             b"",
@@ -288,6 +288,7 @@ fn other_files_and_words_are_refused_and_write_nothing(rt: HostRuntime) -> Resul
         ),
         (&["recover"], b"", Status::Usage, "jakstab: usage\n"),
         (&["recover", "-a"], b"", Status::Usage, "jakstab: usage\n"),
+        (&["demo", "2001"], b"", Status::Usage, "jakstab: usage\n"),
         (
             &["recover", "a", "a"],
             b"",
