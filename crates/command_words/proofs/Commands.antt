@@ -1,5 +1,5 @@
 -- What was read of the words of each command is the command that they are.
-use Rattle.std.proofs.Common.{◌≡◌, Bool, cond, true, false, refl, sym, ap, subst, List, [], ◌∷◌, map, length, Option, Some, None, codes, arith, ◌≤◌, String, string_bytes}
+use Rattle.std.proofs.Common.{◌≡◌, ◌∙◌, ℕ, Bool, cond, true, false, refl, sym, ap, subst, List, [], ◌∷◌, map, length, Option, Some, None, codes, arith, ◌≤◌, String, string_bytes}
 use Rattle.std.specs.List.{slice_index_or}
 use Rattle.std.specs.Option.{ok_or, option_map, option_and_then}
 use Rattle.std.specs.Prelude.{bytes_eq}
@@ -23,7 +23,7 @@ given_accepted options words f accepted = rw accepted refl
 
 pub recover_exact : (words : List Text) (rows : List Row) → IsRead RECOVER_OPTIONS (all_pieces words) rows → recover_read rows ≡ recover_of words
 recover_exact words rows r =
-    rw (r.words, r.named (codes "stubs") refl, r.named (codes "k") refl, r.named (codes "budget") refl, r.named (codes "domain") refl) (given_accepted RECOVER_OPTIONS words recover_given r.accepted)
+    rw (r.words, r.named (codes "stubs") refl, r.named (codes "k") refl, r.named (codes "budget") refl, r.named (codes "domain") refl, r.named (codes "text") refl) (given_accepted RECOVER_OPTIONS words recover_given r.accepted)
 
 pub recover_refused : (words : List Text) → is_refused RECOVER_OPTIONS (all_pieces words) ≡ true → recover_of words ≡ None
 recover_refused words refused = given_refused RECOVER_OPTIONS words recover_given refused

@@ -7,6 +7,7 @@ use Rattle.clap.specs.declared.builder.action.ArgAction.TheVariants.{Append, Set
 use Rattle.clap.specs.declared.builder.value_parser.ValueParser.TheVariants as vp
 use Rattle.demo_images.specs.Demo.{MOST_BLOCKS}
 use Rattle.command_words.specs.declared.task.Options.{Options}
+use Rattle.command_words.specs.declared.task.TextVersion.{TextVersion}
 use Rattle.command_words.specs.declared.words.ThreeWords.{ThreeWords as ThreeWordsGiven}
 use Rattle.command_words.specs.declared.task.Task.TheVariants as tasks
 use Rattle.command_words.specs.declared.task.Task.{Task as TaskGiven}
@@ -14,7 +15,7 @@ use Rattle.command_words.specs.declared.task.Asked.{Asked}
 use Rattle.command_words.specs.declared.task.Asked.TheVariants as asked
 use Rattle.command_words.specs.declared.words.WordsFault.{WordsFault}
 use Rattle.command_words.specs.declared.words.WordsFault.TheVariants.{Usage}
-use Rattle.command_words.specs.Words.{Piece, Task, Recover, ListImage, Decode, Command, Demo, dashed, values_of, is_refused, on_image, asked_with, demo_with, options_with, number_given, number_within, domain_given, file_given, only_word, ThreeWords, three_words, decoding, K_DEFAULT, K_LIMIT, BUDGET_DEFAULT, BUDGET_LIMIT}
+use Rattle.command_words.specs.Words.{Piece, Task, Recover, ListImage, Decode, Command, Demo, dashed, values_of, is_refused, on_image, asked_with, recover_with, demo_with, options_with, version_numbered, number_given, number_within, domain_given, file_given, only_word, ThreeWords, three_words, decoding, K_DEFAULT, K_LIMIT, BUDGET_DEFAULT, BUDGET_LIMIT}
 
 -- the id of the positional words
 abbrev pub WORDS : Text
@@ -58,9 +59,12 @@ options_read rows =
 abbrev pub stubs_read : List Row → Option (Option Text)
 stubs_read rows = file_given (listed (codes "stubs") rows)
 
+abbrev pub version_read : List Row → Option TextVersion
+version_read rows = option_map version_numbered (number_given 2 2 (listed (codes "text") rows))
+
 -- what each command makes of the rows
 abbrev pub recover_read : List Row → Option Command
-recover_read rows = asked_with (only_word (listed WORDS rows)) (stubs_read rows) (option_map Recover (options_read rows))
+recover_read rows = asked_with (only_word (listed WORDS rows)) (stubs_read rows) (recover_with (options_read rows) (version_read rows))
 
 abbrev pub list_read : List Row → Option Command
 list_read rows = asked_with (only_word (listed WORDS rows)) (stubs_read rows) (Some ListImage)
@@ -72,7 +76,7 @@ abbrev pub demo_read : List Row → Option Command
 demo_read rows = demo_with (option_and_then (number_within 0 MOST_BLOCKS) (only_word (listed WORDS rows))) (options_read rows)
 
 abbrev pub task_of : TaskGiven → Task
-task_of (tasks.Recover options) = Recover options
+task_of (tasks.Recover options version) = Recover options version
 task_of tasks.List = ListImage
 task_of (tasks.Decode address count) = Decode address count
 

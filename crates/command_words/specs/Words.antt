@@ -6,12 +6,14 @@ use Rattle.std.specs.Str.Parse.{digits_value}
 use Rattle.text_fields.specs.Hex.{number_after}
 use Rattle.demo_images.specs.Demo.{MOST_BLOCKS}
 use Rattle.command_words.specs.declared.task.DomainName.{DomainName}
-use Rattle.command_words.specs.declared.task.DomainName.TheVariants.{Flat, Bounded}
+use Rattle.command_words.specs.declared.task.DomainName.TheVariants.{Flat, Bounded, Interval}
 use Rattle.command_words.specs.declared.task.Options.{Options}
+use Rattle.command_words.specs.declared.task.TextVersion.{TextVersion}
+use Rattle.command_words.specs.declared.task.TextVersion.TheVariants.{First, Second}
 
 -- what is done with an image
 pub data Task : Type 0 where
-  Recover : Options → Task
+  Recover : Options → TextVersion → Task
   ListImage : Task
   -- an address and a count
   Decode : ℕ → ℕ → Task
@@ -164,6 +166,7 @@ abbrev pub domain_named : List ℕ → Option DomainName
 domain_named word =
     if bytes_eq word (codes "flat") then Some Flat
     else if bytes_eq word (codes "bounded") then Some Bounded
+    else if bytes_eq word (codes "interval") then Some Interval
     else None
 
 abbrev pub domain_given : List (List ℕ) → Option DomainName
@@ -183,6 +186,14 @@ options_of given =
     (number_given K_DEFAULT K_LIMIT (given_to (codes "k") given))
     (number_given BUDGET_DEFAULT BUDGET_LIMIT (given_to (codes "budget") given))
     (domain_given (given_to (codes "domain") given))
+
+-- the version of a text with a number
+abbrev pub version_numbered : ℕ → TextVersion
+version_numbered n = if n == 1 then First else Second
+
+-- `--text`, the number of a version: 1, or 2, which is its default
+abbrev pub version_of : List Piece → Option TextVersion
+version_of given = option_map version_numbered (number_given 2 2 (given_to (codes "text") given))
 
 -- exactly one positional word
 abbrev pub only_word : List (List ℕ) → Option (List ℕ)
@@ -210,13 +221,17 @@ abbrev pub asked_with : Option (List ℕ) → Option (Option (List ℕ)) → Opt
 asked_with (Some image) (Some stubs) (Some task) = Some (on_image image stubs task)
 asked_with _ _ _ = None
 
+abbrev pub recover_with : Option Options → Option TextVersion → Option Task
+recover_with (Some options) (Some version) = Some (Recover options version)
+recover_with _ _ = None
+
 -- `recover IMAGE` with its options
 abbrev pub recover_given : List Piece → Option Command
 recover_given given =
-    asked_with (only_word (values_of None given)) (file_given (given_to (codes "stubs") given)) (option_map Recover (options_of given))
+    asked_with (only_word (values_of None given)) (file_given (given_to (codes "stubs") given)) (recover_with (options_of given) (version_of given))
 
 abbrev pub RECOVER_OPTIONS : List (List ℕ)
-RECOVER_OPTIONS = codes "stubs" ∷ codes "k" ∷ codes "budget" ∷ codes "domain" ∷ []
+RECOVER_OPTIONS = codes "stubs" ∷ codes "k" ∷ codes "budget" ∷ codes "domain" ∷ codes "text" ∷ []
 
 abbrev pub recover_of : List (List ℕ) → Option Command
 recover_of words = option_and_then recover_given (words_given RECOVER_OPTIONS words)

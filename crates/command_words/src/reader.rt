@@ -55,7 +55,7 @@ pub fn recover_reader<'a>(alloc: Global) -> Result<Command<'a>, AllocError>
     ensures { IfOk result (λ c. app_of c ≡ reader (codes "recover") RECOVER_OPTIONS) }
 {
     let command = image_reader(alloc, "recover")?;
-    with_limits(alloc, command)
+    with_limits(alloc, command)?.arg(option(alloc, "text"))
 }
 
 // `demo` with its options.

@@ -1,47 +1,61 @@
-use crate::{Asked, DomainName, Options, Task, WordsFault, command};
+use crate::{Asked, DomainName, Options, Task, TextVersion, WordsFault, command};
 use std::alloc::{AllocError, Global};
 use std::test::Fail;
 
 // The words that are a command, each with what they ask: the command, the files and what is given to it, with `-` for no stub file.
-const ACCEPTED: [(&str, &str); 34] = [
-    ("recover a", "recover a - 32 100000 bounded"),
+const ACCEPTED: [(&str, &str); 40] = [
+    ("recover a", "recover a - 32 100000 bounded 2"),
     (
         "recover --k 3 a --budget=7 --domain flat",
-        "recover a - 3 7 flat",
+        "recover a - 3 7 flat 2",
     ),
     (
         "recover a --k 1 --budget 1 --domain bounded",
-        "recover a - 1 1 bounded",
+        "recover a - 1 1 bounded 2",
     ),
     (
         "recover --k=1024 --budget=1000000 a",
-        "recover a - 1024 1000000 bounded",
+        "recover a - 1024 1000000 bounded 2",
     ),
-    ("recover --k 0000000003 a", "recover a - 3 100000 bounded"),
+    ("recover --k 0000000003 a", "recover a - 3 100000 bounded 2"),
     (
         "recover --budget 0001000000 a",
-        "recover a - 32 1000000 bounded",
+        "recover a - 32 1000000 bounded 2",
     ),
-    ("recover -- -a", "recover -a - 32 100000 bounded"),
-    ("recover -- --k", "recover --k - 32 100000 bounded"),
-    ("recover -", "recover - - 32 100000 bounded"),
-    ("recover --k 3 -", "recover - - 3 100000 bounded"),
-    ("recover a --", "recover a - 32 100000 bounded"),
-    ("recover -- --", "recover -- - 32 100000 bounded"),
-    ("recover --k 3 -- a", "recover a - 3 100000 bounded"),
-    ("recover --k=3 -- a", "recover a - 3 100000 bounded"),
-    ("recover recover", "recover recover - 32 100000 bounded"),
-    ("recover a --stubs b", "recover a b 32 100000 bounded"),
-    ("recover --stubs=b a", "recover a b 32 100000 bounded"),
+    (
+        "recover --domain=interval a",
+        "recover a - 32 100000 interval 2",
+    ),
+    (
+        "recover --domain interval --text 1 a",
+        "recover a - 32 100000 interval 1",
+    ),
+    ("recover --text 2 a", "recover a - 32 100000 bounded 2"),
+    ("recover a --text=01", "recover a - 32 100000 bounded 1"),
+    (
+        "recover --text 0000000002 -- a",
+        "recover a - 32 100000 bounded 2",
+    ),
+    ("recover -- -a", "recover -a - 32 100000 bounded 2"),
+    ("recover -- --k", "recover --k - 32 100000 bounded 2"),
+    ("recover -", "recover - - 32 100000 bounded 2"),
+    ("recover --k 3 -", "recover - - 3 100000 bounded 2"),
+    ("recover a --", "recover a - 32 100000 bounded 2"),
+    ("recover -- --", "recover -- - 32 100000 bounded 2"),
+    ("recover --k 3 -- a", "recover a - 3 100000 bounded 2"),
+    ("recover --k=3 -- a", "recover a - 3 100000 bounded 2"),
+    ("recover recover", "recover recover - 32 100000 bounded 2"),
+    ("recover a --stubs b", "recover a b 32 100000 bounded 2"),
+    ("recover --stubs=b a", "recover a b 32 100000 bounded 2"),
     (
         "recover --k 3 --stubs=-b a --budget 4",
-        "recover a -b 3 4 bounded",
+        "recover a -b 3 4 bounded 2",
     ),
     (
         "recover --stubs b -- --stubs",
-        "recover --stubs b 32 100000 bounded",
+        "recover --stubs b 32 100000 bounded 2",
     ),
-    ("recover --stubs=a=b a", "recover a a=b 32 100000 bounded"),
+    ("recover --stubs=a=b a", "recover a a=b 32 100000 bounded 2"),
     ("list a", "list a -"),
     ("list a --stubs=b", "list a b"),
     ("list --stubs b a", "list a b"),
@@ -59,10 +73,14 @@ const ACCEPTED: [(&str, &str); 34] = [
     ("demo 2000", "demo 2000 32 100000 bounded"),
     ("demo 02000 --k 1", "demo 2000 1 100000 bounded"),
     ("demo --domain=flat --budget 5 -- 3", "demo 3 32 5 flat"),
+    (
+        "demo --domain interval 1 --k=1024",
+        "demo 1 1024 100000 interval",
+    ),
 ];
 
 // Words that are none.
-const REFUSED: [&str; 130] = [
+const REFUSED: [&str; 124] = [
     "",
     "recover",
     "recover a b",
@@ -174,11 +192,6 @@ const REFUSED: [&str; 130] = [
     "demo 1 --budget 1000001",
     "demo 1 --domain none",
     "demo -- 1 1",
-    "recover --domain=interval a",
-    "recover --domain interval --text 1 a",
-    "recover --text 2 a",
-    "recover a --text=01",
-    "recover --text 0000000002 -- a",
     "run a b 0",
     "run a b 1000000",
     "run a b 0000000007 --stubs c",
@@ -192,13 +205,20 @@ const REFUSED: [&str; 130] = [
     "replay --stubs=d -- a -b --stubs",
     "replay a a a",
     "replay - - -",
-    "demo --domain interval 1 --k=1024",
 ];
 
 fn domain_word(domain: DomainName) -> &'static str {
     match domain {
         DomainName::Flat => "flat",
         DomainName::Bounded => "bounded",
+        DomainName::Interval => "interval",
+    }
+}
+
+fn version_word(version: TextVersion) -> &'static str {
+    match version {
+        TextVersion::First => "1",
+        TextVersion::Second => "2",
     }
 }
 
@@ -209,9 +229,9 @@ fn options_told(alloc: Global, options: Options) -> Result<String, AllocError> {
 
 fn task_told(alloc: Global, files: &str, task: Task) -> Result<String, AllocError> {
     match task {
-        Task::Recover(options) => {
+        Task::Recover { options, version } => {
             let told = options_told(alloc, options)?;
-            format!(in alloc; "recover {files} {told}")
+            format!(in alloc; "recover {files} {told} {}", version_word(version))
         }
         Task::List => format!(in alloc; "list {files}"),
         Task::Decode { address, count } => format!(in alloc; "decode {files} {address} {count}"),

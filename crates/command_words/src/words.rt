@@ -3,12 +3,12 @@ ghost use Rattle.std.specs.List.{list_all};
 ghost use Rattle.clap.specs.Words.{found_of, rows_of};
 ghost use Rattle.command_words.specs.Words.{command_of, list_of, file_given, recover_of, decode_of, demo_of, address_of, number_within, is_digit, is_number, number_given, domain_given, domain_named, only_word, three_words};
 ghost use Rattle.command_words.specs.Given.{IsGiven};
-ghost use Rattle.command_words.specs.Reader.{WORDS, listed, options_read, recover_read, list_read, decode_read, demo_read, three_of, asked_of, Answers};
+ghost use Rattle.command_words.specs.Reader.{WORDS, listed, options_read, version_read, recover_read, list_read, decode_read, demo_read, three_of, asked_of, Answers};
 
 use crate::reader::{
     Given, decode_reader, demo_reader, given_under, image_reader, read, recover_reader,
 };
-use crate::task::{Asked, DomainName, ImageCommand, Options, Task};
+use crate::task::{Asked, DomainName, ImageCommand, Options, Task, TextVersion};
 use clap::ArgMatches;
 use demo_images::MOST_BLOCKS;
 use std::alloc::Global;
@@ -32,6 +32,9 @@ const K_LIMIT: u32 = 1_024;
 const BUDGET: u32 = 100_000;
 
 const BUDGET_LIMIT: u32 = 1_000_000;
+
+/// The number of `--text` where the words do not say, and at most.
+const TEXT: u32 = 2;
 
 /// The count of `decode`, at most.
 const COUNT_LIMIT: u32 = 100_000;
@@ -73,10 +76,11 @@ fn recover_given<'a>(matches: &ArgMatches<'a>) -> Option<Asked<'a>>
     let image = only_word(given_under(matches, "words"))?;
     let stubs = file_given(given_under(matches, "stubs"))?;
     let options = options_given(matches)?;
+    let version = version_given(matches)?;
     Some(Asked::OnImage(ImageCommand {
         image,
         stubs,
-        task: Task::Recover(options),
+        task: Task::Recover { options, version },
     }))
 }
 
@@ -166,6 +170,18 @@ fn options_given(matches: &ArgMatches) -> Option<Options>
     Some(Options { k, budget, domain })
 }
 
+// The version that is printed.
+fn version_given(matches: &ArgMatches) -> Option<TextVersion>
+    ensures { result ≡ version_read (rows_of (found_of matches.now)) }
+{
+    let number = number_given(given_under(matches, "text"), TEXT, TEXT)?;
+    Some(if number == 1 {
+        TextVersion::First
+    } else {
+        TextVersion::Second
+    })
+}
+
 // The only positional word.
 fn only_word<'a>(given: Given<'a>) -> Option<&'a str>
     ensures { (values : List (List ℕ)) → IsGiven given.entry values → option_map (λ s. s.now) result ≡ only_word values }
@@ -246,6 +262,7 @@ fn domain_named(word: &str) -> Option<DomainName>
     match word {
         "flat" => Some(DomainName::Flat),
         "bounded" => Some(DomainName::Bounded),
+        "interval" => Some(DomainName::Interval),
         _ => None,
     }
 }

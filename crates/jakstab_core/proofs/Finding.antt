@@ -10,9 +10,9 @@ use Rattle.jakstab_core.specs.declared.work.Work.{Work}
 use Rattle.command_words.specs.Words.{Command}
 use Rattle.std.specs.Prelude.{Ok}
 use Rattle.jakstab_core.specs.Inputs.{Reading, Origin, File, Made, Source, IsFine, IsUnread, IsRefusedAt, AreRefused, image_of, stubs_of, image_source, stub_source, stub_sources, sources_of, limit_of}
-use Rattle.jakstab_core.specs.Tasks.{Prepared, AreStubs, IsWork, IsWorkRefused}
+use Rattle.jakstab_core.specs.Tasks.{Prepared, AreStubs, IsWork, IsOutput}
 use Rattle.jakstab_core.specs.Says.{IsCommandRefused, IsTextOf}
-use Rattle.jakstab_core.specs.Due.{OfBytes, OfImage, OrMemory, IsWritten}
+use Rattle.jakstab_core.specs.Due.{OfBytes, OfImage}
 
 -- ---- a part of a call's reading
 
@@ -51,12 +51,12 @@ module _ (r later : Reading) (is : IsLater r later) where
 module _ (r : Reading) (command : Command) where
   -- the image is refused
   pub image_refused : (status : Status) → IsRefusedAt r (image_source (image_of command)) status → IsCommandRefused r command status
-  image_refused status why = inl (inl why)
+  image_refused status why = inl why
 
   module _ (laid_out : LaidOut) (image : OfBytes r.held (limit_of inputs.Image) (image_of command) (λ bytes. load_of bytes ≡ Ok laid_out)) where
     -- the image is fine, and the stubs are refused
     pub stubs_refused : (status : Status) → AreRefused r (stub_sources (stubs_of command)) status → IsCommandRefused r command status
-    stubs_refused status why = inl (inr ((image.0, image.1, (laid_out, image.2)), why))
+    stubs_refused status why = inr ((image.0, image.1, (laid_out, image.2)), why)
 
     module _ (stubs : StatedStubs) (stated : AreStubs r.held (stubs_of command) stubs) (work : Work) (due : IsWork r.held command work) where
       prepared : (image_there : Image) → {Fact : Image → Type 0} → OfImage laid_out stubs Fact → Prepared r.held command
@@ -72,9 +72,5 @@ module _ (r : Reading) (command : Command) where
         due = due;
       }
 
-      pub text_found : (text : List ℕ) → OfImage laid_out stubs (IsWritten work stubs text) → IsTextOf r.held command text
-      text_found text found = record { prepared = prepared found.image found; explored = found.fact.explored; is = found.fact.is }
-
-      pub work_refused : (status : Status) → OrMemory (λ status. OfImage laid_out stubs (λ there. IsWorkRefused work there status)) status → OrMemory (IsCommandRefused r command) status
-      work_refused status (inl memory) = inl memory
-      work_refused status (inr found) = inr (inr (record { prepared = prepared found.image found; refused = found.fact }))
+      pub text_found : (text : List ℕ) → OfImage laid_out stubs (λ there. IsOutput work stubs there text) → IsTextOf r.held command text
+      text_found text found = record { prepared = prepared found.image found; is = found.fact }

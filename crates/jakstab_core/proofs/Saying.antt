@@ -14,18 +14,18 @@ use Rattle.command_words.specs.Words.{Command, command_of}
 use Rattle.jakstab_core.specs.StatusLine.{status_line}
 use Rattle.jakstab_core.specs.Headline.{CoversRuns}
 use Rattle.jakstab_core.specs.Inputs.{Reading, Origin, File, Made, Kind, ImageFile, StubFile, Source, sources_of, IsFrom, IsFaulty, IsUnread, IsTooLong, IsRefusedAt, AreRefused, IsHeldFrom, AreHeld, stub_number, limit_of}
-use Rattle.jakstab_core.specs.Tasks.{IsExplored, IsOutput, Covers}
-use Rattle.jakstab_core.specs.Says.{Call, Gain, Says, OfCommand, IsDue, IsCommandRefused, IsWorkRefusedOf, IsRefused, IsUsageExact, IsFaultless, IsComplete, IsNoted, Answers}
+use Rattle.jakstab_core.specs.Tasks.{IsOutput, Covers}
+use Rattle.jakstab_core.specs.Says.{Call, Gain, Says, OfCommand, IsDue, IsCommandRefused, IsRefused, IsUsageExact, IsFaultless, IsComplete, IsNoted, Answers}
 use Rattle.jakstab_core.specs.Due.{IsDelivered, OrMemory}
 use Rattle.jakstab_core.proofs.Covering.{text_covers}
 
 -- the text of work says of the machine's runs what it is to say
-covers_of : (work : Work) (stubs : StatedStubs) (image : Image) (text : List ℕ) → IsExplored work image → IsLoaded image → IsOutput work stubs image text → Covers work stubs image text
-covers_of (works.Recover options) stubs image text explored loaded is =
-    let P : List ℕ → Type 0 = CoversRuns image stubs in subst P (sym is) (text_covers image stubs explored loaded options)
-covers_of works.List stubs image text explored loaded is = tt
-covers_of (works.Decode address count) stubs image text explored loaded is = tt
-covers_of (works.Summarize blocks options) stubs image text explored loaded is = tt
+covers_of : (work : Work) (stubs : StatedStubs) (image : Image) (text : List ℕ) → IsLoaded image → IsOutput work stubs image text → Covers work stubs image text
+covers_of (works.Recover options version) stubs image text loaded is =
+    let P : List ℕ → Type 0 = CoversRuns image stubs in subst P (sym is) (text_covers image stubs loaded options version)
+covers_of works.List stubs image text loaded is = tt
+covers_of (works.Decode address count) stubs image text loaded is = tt
+covers_of (works.Summarize blocks options) stubs image text loaded is = tt
 
 -- ---- which statuses tell of an input or of work on it
 
@@ -60,8 +60,7 @@ among_status r (s ∷ rest) status (inl h) = refused_status r s status h
 among_status r (s ∷ rest) status (inr h) = among_status r rest status h.1
 
 command_status : (r : Reading) (command : Command) (status : Status) → IsCommandRefused r command status → is_of_input status ≡ true
-command_status r command status (inl h) = among_status r (sources_of command) status h
-command_status r command status (inr h) = ap is_of_input h.refused.0
+command_status r command status h = among_status r (sources_of command) status h
 
 -- ---- from why a command is refused to what its status says
 
@@ -149,11 +148,8 @@ module _ (r : Reading) (contents : Contents) (tells : r.held ≡ Some contents) 
 module _ (a : Call) (out : Gain) (f : IsFaultless a out) where
   not_refused : (command : Command) (status : Status) → command ≡ f.command → IsCommandRefused a.shelf command status → ⊥
   not_refused command status same why =
-      let P : Command → Type 0 = λ c. IsCommandRefused a.shelf c status in of_own (subst P same why)
-    where
-      of_own : IsCommandRefused a.shelf f.command status → ⊥
-      of_own (inl among) = held_not_refused a.shelf f.contents f.tells (sources_of f.command) f.inputs status among
-      of_own (inr work) = f.work status work
+      let P : Command → Type 0 = λ c. IsCommandRefused a.shelf c status in
+      held_not_refused a.shelf f.contents f.tells (sources_of f.command) f.inputs status (subst P same why)
 
   refusal : (status : Status) → OfCommand a (λ command. IsCommandRefused a.shelf command status) → ⊥
   refusal status of =
@@ -183,7 +179,7 @@ done_says a out text due gained = record {
   due = due;
   gained = gained;
   covers =
-      covers_of due.fact.prepared.work due.fact.prepared.stubs due.fact.prepared.image text due.fact.explored due.fact.prepared.loaded due.fact.is;
+      covers_of due.fact.prepared.work due.fact.prepared.stubs due.fact.prepared.image text due.fact.prepared.loaded due.fact.is;
 }
 
 -- a refusal with nothing written

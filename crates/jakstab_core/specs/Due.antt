@@ -9,9 +9,7 @@ use Rattle.image_loader.specs.Binding.{image_of}
 use Rattle.jakstab_core.specs.declared.status.Input.{Input}
 use Rattle.jakstab_core.specs.declared.status.Status.{Status}
 use Rattle.jakstab_core.specs.declared.status.Status.TheVariants.{Done, WriteFault, ReadFault, TooLong, Memory}
-use Rattle.jakstab_core.specs.declared.work.Work.{Work}
-use Rattle.jakstab_core.specs.Inputs.{Reading, Origin, File, Kind, Source, IsFrom, IsUnread, IsTooLong, IsFaulty, IsRefusedAt, AreRefused, stub_sources, limit_of}
-use Rattle.jakstab_core.specs.Tasks.{IsExplored, IsOutput, IsWorkRefused}
+use Rattle.jakstab_core.specs.Inputs.{Reading, Origin, File, IsFrom, IsUnread, IsTooLong, limit_of}
 use Rattle.jakstab_core.specs.Says.{Gain}
 
 -- memory was wanting, or this is so of the status
@@ -32,11 +30,6 @@ pub record OfImage (laid_out : LaidOut) (stubs : StatedStubs) (Fact : Image → 
   pub is : image ≡ image_of stubs laid_out
   pub loaded : IsLoaded image
   pub fact : Fact image
-
--- what work on an image writes
-pub record IsWritten (work : Work) (stubs : StatedStubs) (text : List ℕ) (image : Image) : Type 0 where
-  pub explored : IsExplored work image
-  pub is : IsOutput work stubs image text
 
 -- a text that is due is written whole or in part, and a refusal is handed on
 abbrev pub IsDelivered : Result (Vec ℕ Global) Status → Status → Gain → Type 0

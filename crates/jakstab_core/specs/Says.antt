@@ -6,7 +6,7 @@ use Rattle.jakstab_core.specs.declared.status.Status.TheVariants.{Done, Usage, W
 use Rattle.jakstab_core.specs.StatusLine.{status_line}
 use Rattle.command_words.specs.Words.{Command, command_of}
 use Rattle.jakstab_core.specs.Inputs.{Reading, sources_of, AreRefused, AreHeld}
-use Rattle.jakstab_core.specs.Tasks.{Prepared, IsExplored, IsOutput, IsWorkRefused, Covers}
+use Rattle.jakstab_core.specs.Tasks.{Prepared, IsOutput, Covers}
 
 -- what a call asks: its words, and of the shelf
 pub record Call : Type 0 where
@@ -31,7 +31,6 @@ pub record OfCommand (a : Call) (Fact : Command → Type 0) : Type 0 where
 -- a command's inputs are accepted, and this is what it writes of them
 pub record IsTextOf (held : Option Contents) (command : Command) (text : List ℕ) : Type 0 where
   pub prepared : Prepared held command
-  pub explored : IsExplored prepared.work prepared.image
   pub is : IsOutput prepared.work prepared.stubs prepared.image text
 
 abbrev pub IsDue : Call → List ℕ → Type 0
@@ -53,14 +52,9 @@ pub record SaysWriteFault (a : Call) (out : Gain) : Type 0 where
 
 -- ---- why a call is refused before anything is written
 
--- the work on the accepted inputs of a command is refused
-pub record IsWorkRefusedOf (held : Option Contents) (command : Command) (status : Status) : Type 0 where
-  pub prepared : Prepared held command
-  pub refused : IsWorkRefused prepared.work prepared.image status
-
--- a command is refused at one of its inputs, or at its work
+-- a command is refused at one of its inputs
 abbrev pub IsCommandRefused : Reading → Command → Status → Type 0
-IsCommandRefused r command status = AreRefused r (sources_of command) status ⊎ IsWorkRefusedOf r.held command status
+IsCommandRefused r command status = AreRefused r (sources_of command) status
 
 -- want of memory is free
 abbrev pub IsRefused : Status → Call → Type 0
@@ -79,14 +73,13 @@ IsUsageExact status a = (status ≡ Usage → command_of a.words ≡ None) × (c
 
 -- ---- when the command is done
 
--- the words are a command whose inputs are held whole and without a fault, its work is not refused, and nothing failed
+-- the words are a command whose inputs are held whole and without a fault, and nothing failed
 pub record IsFaultless (a : Call) (out : Gain) : Type 0 where
   pub command : Command
   pub accepted : command_of a.words ≡ Some command
   pub contents : Contents
   pub tells : a.shelf.held ≡ Some contents
   pub inputs : AreHeld a.shelf contents (sources_of command)
-  pub work : (status : Status) → IsWorkRefusedOf a.shelf.held command status → ⊥
   pub written : Rose out.faults_before out.faults_after → ⊥
 
 -- then the command is done, but for want of memory

@@ -6,20 +6,17 @@ use Rattle.stub_file.specs.Stubs.{StatedStubs, no_stubs, States}
 use Rattle.image_loader.specs.Binding.{Loads}
 use Rattle.image_listing.specs.Listing.{list_text}
 use Rattle.decode_listing.specs.Listing.{IsListing}
-use Rattle.flow_worklist.specs.FixedCode.{HasFixedCode}
 use Rattle.command_words.specs.Words.{Command, OnImage, Demo, Task, Recover, ListImage, Decode}
 use Rattle.jakstab_core.specs.declared.work.Work.{Work}
 use Rattle.jakstab_core.specs.declared.work.Work.TheVariants as works
 use Rattle.jakstab_core.specs.declared.status.Input.TheVariants as inputs
-use Rattle.jakstab_core.specs.declared.status.Status.{Status}
-use Rattle.jakstab_core.specs.declared.status.Status.TheVariants.{ImageRefused}
 use Rattle.jakstab_core.specs.Headline.{CoversRuns, recovered_text}
 use Rattle.jakstab_core.specs.Inputs.{Origin, IsFrom, image_of, stubs_of, limit_of}
 use Rattle.jakstab_core.specs.Summary.{summary_of}
 
 -- the work of a command, its further inputs read
 abbrev pub IsTaskWork : Option Contents → Task → Work → Type 0
-IsTaskWork held (Recover options) work = work ≡ works.Recover options
+IsTaskWork held (Recover options version) work = work ≡ works.Recover options version
 IsTaskWork held ListImage work = work ≡ works.List
 IsTaskWork held (Decode address count) work = work ≡ works.Decode address count
 
@@ -44,31 +41,16 @@ pub record Prepared (held : Option Contents) (command : Command) : Type 0 where
   pub work : Work
   pub due : IsWork held command work
 
--- an image is explored only where its code cannot change
-abbrev pub IsExplored : Work → Image → Type 0
-IsExplored (works.Recover options) image = HasFixedCode image
-IsExplored works.List image = Unit {0}
-IsExplored (works.Decode address count) image = Unit {0}
-IsExplored (works.Summarize blocks options) image = HasFixedCode image
-
--- the number that tells that an image is not explored
-abbrev pub UNEXPLORED : ℕ
-UNEXPLORED = 300
-
--- why work on an image is refused
-abbrev pub IsWorkRefused : Work → Image → Status → Type 0
-IsWorkRefused work image status = (status ≡ ImageRefused UNEXPLORED) × (IsExplored work image → ⊥)
-
 -- the text that is written
 abbrev pub IsOutput : Work → StatedStubs → Image → List ℕ → Type 0
-IsOutput (works.Recover options) stubs image text = text ≡ recovered_text image stubs options
+IsOutput (works.Recover options version) stubs image text = text ≡ recovered_text image stubs options version
 IsOutput works.List stubs image text = text ≡ list_text stubs image
 IsOutput (works.Decode address count) stubs image text = IsListing image address count text
 IsOutput (works.Summarize blocks options) stubs image text = text ≡ summary_of image stubs blocks options
 
 -- what that text says of the machine's runs: no run leaves the automaton before a location printed open
 abbrev pub Covers : Work → StatedStubs → Image → List ℕ → Type 0
-Covers (works.Recover options) stubs image text = CoversRuns image stubs text
+Covers (works.Recover options version) stubs image text = CoversRuns image stubs text
 Covers works.List stubs image text = Unit {0}
 Covers (works.Decode address count) stubs image text = Unit {0}
 Covers (works.Summarize blocks options) stubs image text = Unit {0}

@@ -43,7 +43,7 @@ fn on_image<R: Threads + Sync, S: Shelf>(
 {
     let loaded = read_image(alloc, shelf, command.image)?;
     let stubs = read_stub_file(alloc, shelf, command.stubs)?;
-    text_of_loaded(rt, alloc, loaded, &stubs, work_of(command.task))
+    text_of_loaded(rt, alloc, loaded, &stubs, work_of(command.task)).or(Err(Status::Memory))
 }
 
 // What a task does.
@@ -51,7 +51,7 @@ fn work_of(task: Task) -> Work
     ensures { IsTaskWork None (task_of task) result }
 {
     match task {
-        Task::Recover(options) => Work::Recover(options),
+        Task::Recover { options, version } => Work::Recover { options, version },
         Task::List => Work::List,
         Task::Decode { address, count } => Work::Decode { address, count },
     }

@@ -14,6 +14,10 @@ mod image_tests;
 mod import_tests;
 mod inputs;
 #[cfg(test)]
+mod interval_tests;
+#[cfg(test)]
+mod known_code_tests;
+#[cfg(test)]
 mod list_tests;
 #[cfg(test)]
 mod memory_tests;

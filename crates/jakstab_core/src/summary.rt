@@ -8,6 +8,7 @@ use command_words::{DomainName, Options};
 use domain_laws::{Domain, FlatNumbers};
 use flow_worklist::{Limits, automaton_of, explore};
 use image_loader::Image;
+use interval_values::Interval;
 use std::alloc::Global;
 use std::thread::Threads;
 use stub_file::Stubs;
@@ -33,7 +34,7 @@ fn log_counts<R: Threads + Sync, D: Domain>(
     ensures { IfOk result (λ counts. counts ≡ log_counts (values_of D.Domain.own D.eq) image.now stubs.now limits.k limits.budget) }
 {
     let log = explore::<R, D>(rt, alloc, image, stubs, limits)?;
-    let automaton = automaton_of(alloc, image, stubs, &log)?;
+    let automaton = automaton_of(alloc, image, &log)?;
     Ok(Counts {
         rows: log.rows().len(),
         locations: automaton.locations.as_slice().len(),
@@ -58,6 +59,7 @@ fn counts_over<R: Threads + Sync>(
     match options.domain {
         DomainName::Flat => log_counts::<R, FlatNumbers>(rt, alloc, image, stubs, limits),
         DomainName::Bounded => log_counts::<R, Bounded>(rt, alloc, image, stubs, limits),
+        DomainName::Interval => log_counts::<R, Interval>(rt, alloc, image, stubs, limits),
     }
 }
 
