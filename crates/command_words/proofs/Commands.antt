@@ -1,5 +1,5 @@
 -- What was read of the words of each command is the command that they are.
-use Rattle.std.proofs.Common.{◌≡◌, ◌∙◌, ℕ, Bool, cond, true, false, refl, sym, ap, subst, List, [], ◌∷◌, map, length, Option, Some, None, codes, arith, ◌≤◌, String, string_bytes}
+use Rattle.std.proofs.Common.{◌≡◌, Bool, cond, true, false, refl, sym, ap, subst, List, [], ◌∷◌, map, length, Option, Some, None, codes, arith, ◌≤◌, String, string_bytes}
 use Rattle.std.specs.List.{slice_index_or}
 use Rattle.std.specs.Option.{ok_or, option_map, option_and_then}
 use Rattle.std.specs.Prelude.{bytes_eq}
