@@ -1,14 +1,12 @@
 -- Values of the code whose bounds were cast between signed types.
-use Rattle.std.proofs.Common.{◌≡◌, ℕ, ◌^◌, ℤ, pos, negsuc, arith, w32, w64, FitsSigned, to_z, of_z, sym, ap, ◌∙◌, true, Bool, ◌==◌}
-use Rattle.std.proofs.lemmas.Int.{ints, to_z-of_z}
+use Rattle.std.proofs.Common.{◌≡◌, ℕ, ◌^◌, ℤ, pos, negsuc, w32, w64, FitsSigned, to_z, of_z, sym, ap, ◌∙◌, true, Bool, ◌==◌}
+use Rattle.std.proofs.lemmas.Int.{to_z-of_z}
 use Rattle.std.proofs.lemmas.Bool.{ltb-true, eqb-true, eq-eqb}
 use Rattle.std.proofs.lemmas.Bool.Decides.{Decides-int_eq, same_from_decides}
 use Rattle.std.specs.Ordering.{int_eq}
-use Rattle.address_regions.specs.declared.region.Region.{Region}
 use Rattle.bit_words.specs.declared.width.Width.TheVariants.{B32}
 use Rattle.bit_words.specs.Width.{is_signed}
 use Rattle.interval_values.specs.declared.value.OffsetSpan.{OffsetSpan}
-use Rattle.interval_values.specs.declared.value.Interval.{Interval}
 use Rattle.interval_values.specs.declared.value.Interval.TheVariants.{Offsets}
 use Rattle.interval_values.specs.Forms.{is_offset_span}
 use Rattle.interval_values.specs.Spans.{offsets}

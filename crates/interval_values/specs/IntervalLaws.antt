@@ -1,5 +1,5 @@
 -- Intervals keep every law of a domain.
-use Rattle.std.proofs.Common.{◌≡◌, ℕ, ℤ, pos, ◌-ℤ◌, ◌≤ℤ◌, ◌+ℤ◌, refl, sym, ap, ◌∙◌, subst, arith, Bool, true, Option, Some, None, IfSome}
+use Rattle.std.proofs.Common.{◌≡◌, ℕ, ℤ, pos, ◌-ℤ◌, ◌≤ℤ◌, ◌+ℤ◌, refl, sym, ap, ◌∙◌, subst, arith, Option, Some, None, IfSome}
 use Rattle.std.proofs.lemmas.Int.{ints}
 use Rattle.std.proofs.lemmas.Bool.{cond_both}
 use Rattle.bit_words.specs.declared.op.Op.{Op}
@@ -18,7 +18,7 @@ use Rattle.domain_laws.specs.SharedLaws.{shared-stands, shared-names}
 use Rattle.interval_values.specs.declared.value.Interval.{Interval}
 use Rattle.interval_values.specs.declared.value.Interval.TheVariants.{Any}
 use Rattle.interval_values.specs.Forms.{distance}
-use Rattle.interval_values.specs.Spans.{span, place_span, interval_number, interval_place, interval_inside}
+use Rattle.interval_values.specs.Spans.{place_span, interval_number, interval_place, interval_inside}
 use Rattle.interval_values.specs.Stands.{interval_stands, interval_number_of, interval_reach, interval_up_to}
 use Rattle.interval_values.specs.Order.{interval_leq, interval_rank, interval_raise}
 use Rattle.interval_values.specs.Rules.{by_intervals, interval_eval}

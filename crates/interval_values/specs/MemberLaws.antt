@@ -1,5 +1,5 @@
 -- For which numbers a span stands, what it tells of them, and what it names.
-use Rattle.std.proofs.Common.{◌≡◌, ℕ, ◌+◌, ◌-◌, ◌*◌, ◌/◌, ◌<◌, ◌≤◌, min, ℤ, pos, ◌+ℤ◌, ◌≤ℤ◌, refl, sym, ap, ◌∙◌, subst, arith, Bool, true, false, ◌==◌, if◌then◌else◌, Option, Some, None, ◌⊎◌, inl, inr, ⊎_elim}
+use Rattle.std.proofs.Common.{◌≡◌, ℕ, ◌+◌, ◌-◌, ◌*◌, ◌/◌, ◌≤◌, min, ℤ, pos, ◌+ℤ◌, ◌≤ℤ◌, refl, sym, ap, ◌∙◌, subst, arith, true, false, ◌==◌, if◌then◌else◌, Some, None, ◌⊎◌, inl, inr, ⊎_elim}
 use Rattle.std.specs.Prelude.{nat_le}
 use Rattle.std.specs.Ordering.{int_eq}
 use Rattle.std.proofs.lemmas.Int.{ints}
@@ -16,7 +16,7 @@ use Rattle.interval_values.specs.declared.value.NumberSpan.{NumberSpan}
 use Rattle.interval_values.specs.declared.value.Interval.{Interval}
 use Rattle.interval_values.specs.declared.value.Interval.TheVariants.{Numbers, Offsets, Any}
 use Rattle.interval_values.specs.Spans.{span, place_span}
-use Rattle.interval_values.specs.Stands.{IsNumberOf, IsOffsetOf, IsPlaceIn, interval_stands, interval_number_of, interval_reach, greatest_to, interval_up_to}
+use Rattle.interval_values.specs.Stands.{interval_stands, interval_number_of, interval_reach, greatest_to, interval_up_to}
 use Rattle.interval_values.specs.SpanLaws.{span-cases, place_span-cases, number_span-tells, offset_span-tells}
 
 -- ---- what a span stands for

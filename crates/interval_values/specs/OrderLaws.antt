@@ -1,28 +1,23 @@
 -- The order of intervals, their equality and their ranks keep the laws of a domain.
-use Rattle.std.proofs.Common.{◌≡◌, ℕ, ◌+◌, ◌-◌, ◌*◌, ◌/◌, ◌%◌, ◌<◌, ◌≤◌, ℤ, pos, ◌+ℤ◌, ◌-ℤ◌, ◌≤ℤ◌, refl, sym, ap, ◌∙◌, subst, arith, Bool, true, false, ◌&&◌, ◌==◌, if◌then◌else◌, Option, Some, None, ⊎_elim}
-use Rattle.std.specs.Prelude.{nat_le, nat_lt, int_le}
+use Rattle.std.proofs.Common.{◌≡◌, ℕ, ◌+◌, ◌-◌, ◌*◌, ◌≤◌, ℤ, pos, ◌+ℤ◌, ◌≤ℤ◌, refl, sym, ap, ◌∙◌, subst, arith, true, ◌&&◌, ◌==◌}
+use Rattle.std.specs.Prelude.{nat_le, int_le}
 use Rattle.std.specs.Ordering.{int_eq}
 use Rattle.std.proofs.lemmas.Int.{ints}
-use Rattle.std.proofs.lemmas.Bool.{and_parts, and_from, eqb-true, eqb-false, eq-eqb, ne_eqb, cond-true, cond-false, cond_both, leb-true, le-leb, ltb-true}
+use Rattle.std.proofs.lemmas.Bool.{and_parts, and_from, eqb-true, eq-eqb, leb-true, le-leb}
 use Rattle.std.proofs.lemmas.Bool.Decides.{nat_tests, Decides-int_eq}
 use Rattle.std.proofs.lemmas.Grind.{common_steps}
-use Rattle.address_regions.specs.declared.region.Region.{Region}
-use Rattle.address_regions.specs.declared.region.Region.TheVariants.{Stack, Fs, Gs, Block}
-use Rattle.address_regions.specs.Extents.{has_room, is_inside, low_of, high_of, block_of}
 use Rattle.address_regions.specs.Places.{Places, HasBase}
 use Rattle.address_regions.specs.Same.{same_region}
-use Rattle.address_regions.proofs.RegionLaws.{same_region-is, same_region-refl, inside-tells}
-use Rattle.domain_laws.specs.Reached.{named}
+use Rattle.address_regions.proofs.RegionLaws.{same_region-is, same_region-refl}
 use Rattle.interval_values.specs.declared.value.NumberSpan.{NumberSpan}
 use Rattle.interval_values.specs.declared.value.OffsetSpan.{OffsetSpan}
 use Rattle.interval_values.specs.declared.value.Interval.{Interval}
 use Rattle.interval_values.specs.declared.value.Interval.TheVariants.{Numbers, Offsets, Any}
 use Rattle.interval_values.specs.Forms.{is_multiple, distance}
-use Rattle.interval_values.specs.Spans.{numbers, span, offsets, place_span, interval_inside}
-use Rattle.interval_values.specs.Stands.{IsNumberOf, IsOffsetOf, IsPlaceIn, interval_stands, interval_number_of, interval_reach}
-use Rattle.interval_values.specs.Order.{is_part, is_between, is_place_part, interval_leq, is_all_low, is_all_inside, interval_rank, raise_number, raise_numbers, least_equal, greatest_equal, raise_to_inside, raise_offset, raise_offsets, interval_raise}
-use Rattle.interval_values.specs.SpanLaws.{span-cases, place_span-cases, numbers-is, offsets-is, multiple-of, multiple-from, stride-zero, number_span-tells, offset_span-tells, int_le-tells, int_le-from, distance-is, distance-of}
-use Rattle.interval_values.specs.MemberLaws.{span-named, place_span-named, span-none, place_span-none}
+use Rattle.interval_values.specs.Spans.{numbers, offsets}
+use Rattle.interval_values.specs.Stands.{IsNumberOf, IsOffsetOf, interval_stands}
+use Rattle.interval_values.specs.Order.{is_part, is_between, is_place_part, interval_leq}
+use Rattle.interval_values.specs.SpanLaws.{numbers-is, offsets-is, multiple-of, multiple-from, int_le-tells, int_le-from, distance-is, distance-of}
 use Rattle.interval_values.specs.contracts.value.IntervalPartialEq.TheImpl as equality
 
 -- ---- parts

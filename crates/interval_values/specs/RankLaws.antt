@@ -1,12 +1,12 @@
 -- Ranks and raising keep the laws of a domain.
-use Rattle.std.proofs.Common.{◌≡◌, ℕ, ◌+◌, ◌-◌, ◌*◌, ◌/◌, ◌%◌, ◌<◌, ◌≤◌, ℤ, pos, ◌+ℤ◌, ◌-ℤ◌, ◌≤ℤ◌, refl, sym, ap, ◌∙◌, subst, arith, Bool, true, false, ◌&&◌, ◌==◌, if◌then◌else◌, Option, Some, None, ⊎_elim}
-use Rattle.std.specs.Prelude.{nat_le, nat_lt, int_le}
+use Rattle.std.proofs.Common.{◌≡◌, ℕ, ◌+◌, ◌-◌, ◌*◌, ◌/◌, ◌%◌, ◌<◌, ◌≤◌, ℤ, pos, ◌+ℤ◌, ◌-ℤ◌, ◌≤ℤ◌, refl, sym, ap, ◌∙◌, subst, arith, Bool, true, false, ◌&&◌, ◌==◌, if◌then◌else◌, Some, None, ⊎_elim}
+use Rattle.std.specs.Prelude.{nat_le, nat_lt}
 use Rattle.std.specs.Ordering.{int_eq}
 use Rattle.std.proofs.lemmas.Int.{ints}
-use Rattle.std.proofs.lemmas.Bool.{and_parts, and_from, eqb-true, eqb-false, eq-eqb, ne_eqb, cond-true, cond-false, cond_both, cases_Bool, leb-true, ltb-true}
+use Rattle.std.proofs.lemmas.Bool.{and_parts, and_from, eqb-true, eq-eqb, ne_eqb, cond-true, cond-false, cond_both, cases_Bool, leb-true, ltb-true}
 use Rattle.std.proofs.lemmas.Bool.Decides.{Decides-int_eq}
 use Rattle.address_regions.specs.declared.region.Region.{Region}
-use Rattle.address_regions.specs.Extents.{has_room, is_inside, low_of, high_of, block_of}
+use Rattle.address_regions.specs.Extents.{has_room, is_inside, low_of, high_of}
 use Rattle.address_regions.specs.Places.{Places}
 use Rattle.address_regions.specs.Same.{same_region}
 use Rattle.address_regions.proofs.RegionLaws.{same_region-refl, inside-tells}
@@ -18,10 +18,10 @@ use Rattle.interval_values.specs.declared.value.Interval.TheVariants.{Numbers, O
 use Rattle.interval_values.specs.Forms.{distance}
 use Rattle.interval_values.specs.Spans.{span, place_span, interval_inside}
 use Rattle.interval_values.specs.Stands.{interval_stands, interval_number_of, interval_reach}
-use Rattle.interval_values.specs.Order.{is_part, is_place_part, interval_leq, is_all_low, has_inner_bounds, is_all_inside, rank_of, interval_rank, raise_number, raise_numbers, least_equal, greatest_equal, raise_to_inside, raise_offset, raise_offsets, interval_raise}
+use Rattle.interval_values.specs.Order.{is_place_part, interval_leq, is_all_low, has_inner_bounds, is_all_inside, rank_of, interval_rank, raise_number, raise_numbers, least_equal, greatest_equal, raise_to_inside, raise_offset, raise_offsets, interval_raise}
 use Rattle.interval_values.specs.SpanLaws.{span-cases, place_span-cases, stride-zero, number_span-tells, offset_span-tells, distance-is, distance-of}
 use Rattle.interval_values.specs.MemberLaws.{span-named, place_span-named, span-none, place_span-none}
-use Rattle.interval_values.specs.OrderLaws.{IsPart, part-from, IsPlacePart, place_part-from}
+use Rattle.interval_values.specs.OrderLaws.{part-from, place_part-from}
 
 -- ---- what is below a span
 

@@ -1,5 +1,5 @@
 -- The rules of eval on intervals: what they give stands for the operator's value, names no further block region, and is a number of the operator.
-use Rattle.std.proofs.Common.{◌≡◌, ℕ, ◌^◌, ◌<◌, Some, None, ◌⊎◌, inl, inr}
+use Rattle.std.proofs.Common.{◌≡◌, ℕ, ◌^◌, ◌<◌, Some, ◌⊎◌}
 use Rattle.bit_words.specs.declared.op.Op.{Op}
 use Rattle.bit_words.specs.declared.width.Width.{Width}
 use Rattle.bit_words.specs.Width.{bits_of}
@@ -9,7 +9,6 @@ use Rattle.address_regions.specs.Places.{Places, IsValid}
 use Rattle.domain_laws.specs.Laws.{IsValueOf}
 use Rattle.domain_laws.specs.Reached.{named}
 use Rattle.interval_values.specs.declared.value.Interval.{Interval}
-use Rattle.interval_values.specs.declared.value.Interval.TheVariants.{Numbers, Offsets, Any}
 use Rattle.interval_values.specs.Stands.{interval_stands, interval_number_of, interval_reach}
 use Rattle.interval_values.specs.Rules.{by_intervals}
 

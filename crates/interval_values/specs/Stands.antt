@@ -1,5 +1,5 @@
 -- For which numbers an interval stands, and what is known of them.
-use Rattle.std.specs.Prelude.{ℕ, ◌+◌, ◌-◌, ◌*◌, ◌/◌, ◌≡◌, ◌≤◌, min, ℤ, pos, ◌+ℤ◌, ◌≤ℤ◌, Bool, ◌==◌, nat_le, Option, Some, None, if◌then◌else◌, ⊤}
+use Rattle.std.specs.Prelude.{ℕ, ◌+◌, ◌-◌, ◌*◌, ◌/◌, ◌≡◌, ◌≤◌, min, ℤ, pos, ◌+ℤ◌, ◌≤ℤ◌, ◌==◌, nat_le, Option, Some, None, if◌then◌else◌, ⊤}
 use Rattle.address_regions.specs.Places.{Places, HasBase, place_at}
 use Rattle.domain_laws.specs.declared.reach.Reach.{Reach}
 use Rattle.domain_laws.specs.declared.reach.Reach.TheVariants as reaches

@@ -3,7 +3,9 @@ ghost use Rattle.std.specs.Ordering.{int_eq};
 ghost use Rattle.interval_values.specs.Forms.{distance};
 ghost use Rattle.interval_values.specs.Order.{greatest_equal, has_inner_bounds, interval_leq, interval_raise, interval_rank, is_all_inside, is_all_low, is_between, is_part, is_place_part, least_equal, rank_of, raise_number, raise_numbers, raise_offset, raise_offsets, raise_to_inside};
 
-use crate::span::{distance, first_inside, inside, is_at_most, is_multiple, is_same, last_inside, place_span, span};
+use crate::span::{
+    distance, first_inside, inside, is_at_most, is_multiple, is_same, last_inside, place_span, span,
+};
 use crate::value::{Interval, NumberSpan, OffsetSpan};
 use address_regions::Region;
 
@@ -32,7 +34,9 @@ fn is_part(m: NumberSpan, n: NumberSpan) -> bool
 fn is_place_part(m: OffsetSpan, n: OffsetSpan) -> bool
     ensures { result ≡ is_place_part m n }
 {
-    is_between(m, n) && is_multiple(distance_above(n, m), n.stride) && is_multiple(m.stride, n.stride)
+    is_between(m, n)
+        && is_multiple(distance_above(n, m), n.stride)
+        && is_multiple(m.stride, n.stride)
 }
 
 // Whether the bounds of the first offsets lie between those of the second.
@@ -90,7 +94,8 @@ fn is_all_inside(m: OffsetSpan) -> bool
 fn has_inner_bounds(m: OffsetSpan) -> bool
     ensures { result ≡ has_inner_bounds m }
 {
-    is_same(i64::from(m.low), first_inside(m.region)) && is_same(i64::from(m.high), last_inside(m.region))
+    is_same(i64::from(m.low), first_inside(m.region))
+        && is_same(i64::from(m.high), last_inside(m.region))
 }
 
 pub(crate) fn is_one_offset(m: OffsetSpan) -> bool

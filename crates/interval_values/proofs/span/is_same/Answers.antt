@@ -1,4 +1,3 @@
-use Rattle.std.proofs.Common.{◌∙◌}
 use Rattle.interval_values.proofs.Casts.{same_bits}
 use Rattle.interval_values.proofs.span.is_same.Goals as goal
 

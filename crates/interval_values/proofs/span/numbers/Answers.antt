@@ -1,4 +1,4 @@
-use Rattle.std.proofs.Common.{◌≡◌, sym, ◌∙◌}
+use Rattle.std.proofs.Common.{sym}
 use Rattle.interval_values.specs.SpanLaws.{numbers-is, numbers-any}
 use Rattle.interval_values.proofs.span.numbers.Goals as goal
 

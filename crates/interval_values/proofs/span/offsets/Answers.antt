@@ -1,5 +1,4 @@
-use Rattle.std.proofs.Common.{◌≡◌, sym, ◌∙◌, true}
-use Rattle.interval_values.specs.Forms.{is_offset_span}
+use Rattle.std.proofs.Common.{sym, ◌∙◌}
 use Rattle.interval_values.specs.SpanLaws.{offsets-any, offset_span-tells}
 use Rattle.interval_values.proofs.Casts.{cast_is, cast_test, cast_formed, cast_offsets}
 use Rattle.interval_values.proofs.span.offsets.Goals as goal
