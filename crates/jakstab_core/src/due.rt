@@ -43,7 +43,7 @@ fn on_image<R: Threads + Sync, S: Shelf>(
 {
     let loaded = read_image(alloc, shelf, command.image)?;
     let stubs = read_stub_file(alloc, shelf, command.stubs)?;
-    text_of_loaded(rt, alloc, loaded, &stubs, work_of(command.task)).or(Err(Status::Memory))
+    text_of_loaded(rt, alloc, loaded, &stubs, work_of(command.task))
 }
 
 // What a task does.

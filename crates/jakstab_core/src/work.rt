@@ -1,9 +1,10 @@
-ghost use Rattle.std.specs.Prelude.{IfOk};
+ghost use Rattle.std.specs.Prelude.{◌≡◌, IfOk, MatchResult};
 ghost use Rattle.memory_map.specs.Image.{IsLoaded};
 ghost use Rattle.image_loader.specs.Loading.{laid_out_by};
 ghost use Rattle.jakstab_core.specs.Due.{OfImage};
 ghost use Rattle.jakstab_core.specs.Tasks.{IsOutput};
 
+use crate::Status;
 use crate::recover::recovered_text;
 use crate::summary::summary;
 use bit_words::NoMemory;
@@ -26,9 +27,15 @@ pub enum Work {
     /// Describes the image.
     List,
     /// Lists the instructions from an address on, at most so many.
-    Decode { address: u32, count: u32 },
+    Decode {
+        address: u32,
+        count: u32,
+    },
     /// Sums up the log of the demo image of so many blocks.
-    Summarize { blocks: u32, options: Options },
+    Summarize {
+        blocks: u32,
+        options: Options,
+    },
 }
 
 /// The text that work on an image writes, which is bound to its stubs first.
@@ -38,11 +45,16 @@ pub fn text_of_loaded<R: Threads + Sync>(
     loaded: Loaded,
     stubs: &Stubs,
     work: Work,
-) -> Result<Vec<u8>, NoMemory>
-    ensures { IfOk result (λ text. OfImage (laid_out_by loaded) stubs.now (λ image. IsOutput work stubs.now image text.items)) }
+) -> Result<Vec<u8>, Status>
+    ensures { MatchResult result (λ text. OfImage (laid_out_by loaded) stubs.now (λ image. IsOutput work stubs.now image text.items)) (λ status. status ≡ Status.Memory) }
 {
-    let image = loaded.bind(alloc, stubs)?;
-    output(rt, alloc, work, stubs, &image)
+    match loaded.bind(alloc, stubs) {
+        Ok(image) => match output(rt, alloc, work, stubs, &image) {
+            Ok(text) => Ok(text),
+            Err(_) => Err(Status::Memory),
+        },
+        Err(_) => Err(Status::Memory),
+    }
 }
 
 // The text that work on an image writes.
