@@ -51,10 +51,11 @@ end 1 1 1
 #[test]
 fn ranges_bound_what_is_stored(rt: HostRuntime) -> Result<(), Fail> {
     let alloc = rt.alloc();
-    let interval: &[&str] = &["recover", "--domain", "interval", "--k=4", "i"];
+    let interval: &[&str] = &["recover", "--domain", "interval", "i"];
+    let four: &[&str] = &["recover", "--k=4", "--domain=interval", "i"];
     let file = form_e(alloc, &bounded_store(alloc)?, 7)?;
     check_text(&rt, alloc, interval, &file, STORED)?;
     check_text(&rt, alloc, &["recover", "i"], &file, NOT_STORED)?;
     let file = form_e(alloc, b"\xE8\xFB\xFF\xFF\xFF", 5)?;
-    check_text(&rt, alloc, interval, &file, PUSHED)
+    check_text(&rt, alloc, four, &file, PUSHED)
 }
