@@ -1,7 +1,6 @@
 -- What the rules of eval give names no further block region, and a number that it tells is one of the operator.
-use Rattle.std.proofs.Common.{◌≡◌, ℕ, ◌+◌, ◌-◌, ◌*◌, ◌/◌, ◌%◌, ◌^◌, ◌<◌, ◌≤◌, min, ℤ, pos, ◌+ℤ◌, ◌-ℤ◌, refl, sym, ap, ◌∙◌, subst, arith, Bool, true, false, ◌&&◌, ◌||◌, ◌==◌, if◌then◌else◌, Option, Some, None, IfSome, ◌⊎◌, inl, inr}
-use Rattle.std.specs.Prelude.{nat_le, nat_lt, int_le, int_lt, ⊤}
-use Rattle.std.specs.Option.{option_or}
+use Rattle.std.proofs.Common.{◌≡◌, ℕ, ◌+◌, ◌-◌, ◌*◌, ◌/◌, ◌%◌, ◌^◌, ◌<◌, ℤ, ◌+ℤ◌, ◌-ℤ◌, refl, sym, subst, arith, ◌&&◌, ◌||◌, if◌then◌else◌, Option, Some, None, IfSome, ◌⊎◌, inl, inr}
+use Rattle.std.specs.Prelude.{nat_le, nat_lt, int_le, int_lt}
 use Rattle.std.specs.Ordering.{int_eq}
 use Rattle.std.proofs.lemmas.Bool.{and_parts, cond_both, leb-true}
 use Rattle.std.proofs.lemmas.Nat.{pow_pos}
@@ -9,12 +8,12 @@ use Rattle.bit_words.specs.declared.op.Op.{Op}
 use Rattle.bit_words.specs.declared.op.Op.TheVariants.{Add, Sub, And, Shl, Shr, Eq, Ult, Low8, Low16}
 use Rattle.bit_words.specs.declared.width.Width.{Width}
 use Rattle.bit_words.specs.declared.width.Width.TheVariants.{B8, B16, B32}
-use Rattle.bit_words.specs.Width.{bits_of, cut, word_of}
+use Rattle.bit_words.specs.Width.{bits_of, word_of}
 use Rattle.bit_words.specs.Operators.{apply_op, formula}
 use Rattle.bit_words.proofs.Laws.{modulo-lt}
 use Rattle.address_regions.specs.declared.region.Region.{Region}
 use Rattle.address_regions.specs.declared.region.Region.TheVariants.{Stack}
-use Rattle.address_regions.specs.Extents.{has_one_base, is_in_extent, block_of}
+use Rattle.address_regions.specs.Extents.{is_in_extent, block_of}
 use Rattle.address_regions.specs.Same.{same_region}
 use Rattle.domain_laws.specs.Laws.{IsValueOf}
 use Rattle.domain_laws.specs.Reached.{named}
@@ -29,7 +28,7 @@ use Rattle.interval_values.specs.Divisors.{gcd}
 use Rattle.interval_values.specs.Forms.{distance}
 use Rattle.interval_values.specs.Spans.{span, place_span, interval_number, interval_place}
 use Rattle.interval_values.specs.Stands.{interval_number_of, interval_reach}
-use Rattle.interval_values.specs.Rules.{sums, differences, of_numbers, signed_bounds, are_one, spread_up, spread_down, moved_up, moved_down, of_offsets_and_numbers, offset_differences, equal_offsets, have_one_base, of_offsets, aligned_offset, outside_offsets, aligned, outside, of_offsets_and_number, equal_numbers, below_numbers, compared, shifted_left, shifted_right, shifted_by, shifted, masked_by, masked, low_part, low_bits, by_intervals}
+use Rattle.interval_values.specs.Rules.{of_numbers, signed_bounds, are_one, spread_up, spread_down, moved_up, moved_down, of_offsets_and_numbers, offset_differences, equal_offsets, have_one_base, of_offsets, aligned_offset, outside_offsets, aligned, outside, of_offsets_and_number, compared, shifted_by, shifted, masked_by, masked, low_part, low_bits, by_intervals}
 use Rattle.interval_values.specs.SpanLaws.{span-cases}
 use Rattle.interval_values.specs.MemberLaws.{span-number, place_span-none, span-named, place_span-named, number_of-tells}
 use Rattle.interval_values.specs.StepLaws.{high-lt}

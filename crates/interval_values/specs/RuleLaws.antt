@@ -31,12 +31,12 @@ use Rattle.interval_values.specs.declared.value.Interval.{Interval}
 use Rattle.interval_values.specs.declared.value.Interval.TheVariants.{Numbers, Offsets, Any}
 use Rattle.interval_values.specs.Divisors.{gcd}
 use Rattle.interval_values.specs.Forms.{distance}
-use Rattle.interval_values.specs.Spans.{span, place_span, interval_number, interval_place}
+use Rattle.interval_values.specs.Spans.{span, interval_number, interval_place}
 use Rattle.interval_values.specs.Stands.{IsNumberOf, IsOffsetOf, IsPlaceIn, interval_stands, interval_number_of}
 use Rattle.interval_values.specs.Rules.{sums, differences, of_numbers, signed_bounds, are_one, spread_up, spread_down, moved_up, moved_down, of_offsets_and_numbers, offset_differences, equal_offsets, have_one_base, of_offsets, aligned_offset, outside_offsets, aligned, outside, of_offsets_and_number, equal_numbers, below_numbers, compared, shifted_left, shifted_right, shifted_by, shifted, masked_by, masked, low_part, low_bits, by_sums, by_bits, by_intervals}
 use Rattle.interval_values.specs.SpanLaws.{number_span-tells, offset_span-tells, int_le-tells, distance-is}
 use Rattle.interval_values.specs.MemberLaws.{span-holds, place_span-holds, allows}
-use Rattle.interval_values.specs.StepLaws.{low-le, high-lt, offset-low_le, sum-steps, difference-steps, steps_together, offset-from_high, from_high, offset_difference-steps}
+use Rattle.interval_values.specs.StepLaws.{low-le, high-lt, offset-low_le, sum-steps, difference-steps, steps_together, from_high, offset_difference-steps}
 
 -- ---- rules in order
 

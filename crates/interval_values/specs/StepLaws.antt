@@ -1,5 +1,5 @@
 -- Steps of two spans together: by the greatest common divisor of their strides, from the least sum or difference up.
-use Rattle.std.proofs.Common.{◌≡◌, ℕ, ◌+◌, ◌-◌, ◌*◌, ◌^◌, ◌<◌, ◌≤◌, ℤ, pos, ◌+ℤ◌, ◌-ℤ◌, ◌≤ℤ◌, refl, sym, ap, ◌∙◌, subst, arith, ⊎_elim}
+use Rattle.std.proofs.Common.{◌≡◌, ℕ, ◌+◌, ◌-◌, ◌*◌, ◌^◌, ◌<◌, ◌≤◌, ℤ, pos, ◌+ℤ◌, ◌≤ℤ◌, ap, ◌∙◌, arith, ⊎_elim}
 use Rattle.std.proofs.lemmas.Int.{ints}
 use Rattle.std.proofs.lemmas.Bool.{cases_lt}
 use Rattle.std.proofs.lemmas.Nat.{mul-le}
@@ -9,7 +9,7 @@ use Rattle.interval_values.specs.Divisors.{gcd}
 use Rattle.interval_values.specs.Forms.{distance}
 use Rattle.interval_values.specs.Stands.{IsNumberOf, IsOffsetOf}
 use Rattle.interval_values.specs.SpanLaws.{stride-divides, number_span-tells, offset_span-tells, distance-is}
-use Rattle.interval_values.specs.DivisorLaws.{Shares, shares}
+use Rattle.interval_values.specs.DivisorLaws.{shares}
 
 pub low-le : (m : NumberSpan) (x : ℕ) → IsNumberOf m x → m.low ≤ x
 low-le m x h = let i = h.is in omega arith

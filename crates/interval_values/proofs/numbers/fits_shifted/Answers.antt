@@ -1,4 +1,4 @@
-use Rattle.std.proofs.Common.{◌≡◌, arith}
+use Rattle.std.proofs.Common.{arith}
 use Rattle.std.proofs.lemmas.Nat.{shl_whole}
 use Rattle.interval_values.proofs.numbers.fits_shifted.Goals as goal
 
