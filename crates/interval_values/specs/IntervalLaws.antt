@@ -26,7 +26,8 @@ use Rattle.interval_values.specs.SpanLaws.{distance-is}
 use Rattle.interval_values.specs.MemberLaws.{span-holds, place_span-holds, allows, known, alone, span-number, reached, proper, moved, span-named, place_span-named, cut_holds, cut_named, cut_number}
 use Rattle.interval_values.specs.OrderLaws.{below, below-refl, below-trans, same-is, same-refl}
 use Rattle.interval_values.specs.RankLaws.{raised, lower, zero_rank, raise-named, raise-number}
-use Rattle.interval_values.specs.RuleLaws.{by_intervals-stands, by_intervals-named, by_intervals-number}
+use Rattle.interval_values.specs.RuleLaws.{by_intervals-stands}
+use Rattle.interval_values.specs.NameLaws.{by_intervals-good}
 use Rattle.interval_values.specs.contracts.value.IntervalPartialEq.TheImpl as equality
 
 number_stood : (n : ℕ) (p : Places) → interval_stands (interval_number n) p n
@@ -54,11 +55,11 @@ inside_named r s =
     (λ t e. absurd (cc))
 
 -- a number that is told of a result is one of the operator
-told : (op : Op) (w : Width) (a b rest : Interval) (n : ℕ) (o : Option Settled) → IfSome o (Tells op w (interval_number_of a) (interval_number_of b)) → (interval_number_of rest ≡ Some n → IsValueOf op w n) → interval_number_of (or_settled interval_number a b o rest) ≡ Some n → IsValueOf op w n
+told : (op : Op) (w : Width) (a b rest : Interval) (n : ℕ) (o : Option Settled) → IfSome o (Tells op w (interval_number_of a) (interval_number_of b)) → (interval_number_of rest ≡ Some n → o ≡ None → IsValueOf op w n) → interval_number_of (or_settled interval_number a b o rest) ≡ Some n → IsValueOf op w n
 told op w a b rest n (Some (Number k)) t g e = let (one, is) = span-number k k 0 n e in subst (λ j. IsValueOf op w j) (sym is) t
 told op w a b rest n (Some First) t g e = absurd (cc)
 told op w a b rest n (Some Second) t g e = absurd (cc)
-told op w a b rest n None t g e = g e
+told op w a b rest n None t g e = g e refl
 
 abbrev pub interval : Values Interval
 interval = record { stands = interval_stands; number = interval_number; place = interval_place; inside = interval_inside; any = Any; eval = interval_eval; number_of = interval_number_of; reach = interval_reach; up_to = interval_up_to; leq = interval_leq; rank = interval_rank; raise = interval_raise; eq = equality.ghosts.eq }
@@ -88,10 +89,10 @@ interval-lawful = record {
   place_names = λ r o s e. block-is r s (place_span-named r o o 0 s e);
   inside_names = inside_named;
   any_names = refl;
-  eval_names = λ op w a b align s e. shared-names interval_number a b (by_intervals op w a b align) (λ v. named (interval_reach v)) (settled op w (interval_number_of a) (interval_number_of b)) s (λ n. span-named n n 0) (by_intervals-named op w a b align s) e;
+  eval_names = λ op w a b align s e. shared-names interval_number a b (by_intervals op w a b align) (λ v. named (interval_reach v)) (settled op w (interval_number_of a) (interval_number_of b)) s (λ n. span-named n n 0) ((by_intervals-good op w a b align s 0).0) e;
   up_to_names = cut_named;
   raise_names = raise-named;
-  eval_number = λ op w a b align n e. told op w a b (by_intervals op w a b align) n (settled op w (interval_number_of a) (interval_number_of b)) (settled-tells op w (interval_number_of a) (interval_number_of b)) (by_intervals-number op w a b align n) e;
+  eval_number = λ op w a b align n e. told op w a b (by_intervals op w a b align) n (settled op w (interval_number_of a) (interval_number_of b)) (settled-tells op w (interval_number_of a) (interval_number_of b)) ((by_intervals-good op w a b align Stack n).1) e;
   up_to_number = cut_number;
   raise_number = raise-number;
 }

@@ -8,7 +8,7 @@ ghost use Rattle.interval_values.specs.Stands.{greatest_to, interval_number_of, 
 
 use crate::order::{is_below, raise, rank};
 use crate::rules::by_intervals;
-use crate::span::{inside, place_span, span};
+use crate::span::{inside, number, place, span};
 use crate::value::{Interval, NumberSpan};
 use address_regions::Region;
 use bit_words::{Op, Width};
@@ -42,11 +42,11 @@ impl Domain for Interval {
     ghost lawful = { interval-lawful };
 
     fn number(n: u32) -> Interval {
-        span(n, n, 0)
+        number(n)
     }
 
     fn place(region: Region, offset: i32) -> Interval {
-        place_span(region, i64::from(offset), i64::from(offset), 0)
+        place(region, offset)
     }
 
     fn inside(region: Region) -> Interval {
@@ -59,7 +59,7 @@ impl Domain for Interval {
 
     fn eval(op: Op, w: Width, a: Interval, b: Interval, align: u32) -> Interval {
         match settle(op, w, a.number_of(), b.number_of()) {
-            Some(Settled::Number(n)) => Interval::number(n),
+            Some(Settled::Number(n)) => number(n),
             Some(Settled::First) => a,
             Some(Settled::Second) => b,
             None => by_intervals(op, w, a, b, align),

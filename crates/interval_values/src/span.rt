@@ -1,6 +1,6 @@
 ghost use Rattle.std.specs.Prelude.{◌≡◌, ◌^◌, if◌then◌else◌, pos, neg_ℤ, ◌-ℤ◌, ◌≤ℤ◌, int_le};
 ghost use Rattle.interval_values.specs.Forms.{distance, is_multiple, is_number_span, is_offset_span, is_stride};
-ghost use Rattle.interval_values.specs.Spans.{interval_inside, numbers, offsets, place_span, span};
+ghost use Rattle.interval_values.specs.Spans.{interval_inside, interval_number, interval_place, numbers, offsets, place_span, span};
 ghost use Rattle.std.specs.Ordering.{int_eq};
 ghost use Rattle.address_regions.specs.Extents.{high_of, low_of};
 ghost use Rattle.bit_words.specs.Width.{is_signed};
@@ -15,6 +15,20 @@ pub(crate) fn span(low: u32, high: u32, stride: u32) -> Interval
     ensures { result ≡ span low high stride }
 {
     numbers(low, high, stride_of(low == high, stride))
+}
+
+// One number alone.
+pub(crate) fn number(n: u32) -> Interval
+    ensures { result ≡ interval_number n }
+{
+    span(n, n, 0)
+}
+
+// One offset alone.
+pub(crate) fn place(region: Region, offset: i32) -> Interval
+    ensures { result ≡ interval_place region offset }
+{
+    place_span(region, i64::from(offset), i64::from(offset), 0)
 }
 
 // The stride of a span: 0 for one member alone.
