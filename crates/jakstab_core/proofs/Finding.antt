@@ -4,15 +4,16 @@ use Rattle.outside_io.specs.Outside.{Contents, Rose}
 use Rattle.memory_map.specs.Image.{Image}
 use Rattle.stub_file.specs.Stubs.{StatedStubs, States}
 use Rattle.image_loader.specs.Loading.{LaidOut, load_of}
+use Rattle.demo_images.specs.Demo.{demo_stubs}
 use Rattle.jakstab_core.specs.declared.status.Input.TheVariants as inputs
 use Rattle.jakstab_core.specs.declared.status.Status.{Status}
 use Rattle.jakstab_core.specs.declared.work.Work.{Work}
 use Rattle.command_words.specs.Words.{Command}
 use Rattle.std.specs.Prelude.{Ok}
-use Rattle.jakstab_core.specs.Inputs.{Reading, Origin, File, Made, Source, IsFine, IsUnread, IsRefusedAt, AreRefused, image_of, stubs_of, image_source, stub_source, stub_sources, sources_of, limit_of}
+use Rattle.jakstab_core.specs.Inputs.{Reading, Origin, File, Made, Source, StubFile, IsFaulty, IsFine, IsUnread, IsRefusedAt, AreRefused, image_of, stubs_of, image_source, stub_source, stub_sources, sources_of, limit_of}
 use Rattle.jakstab_core.specs.Tasks.{Prepared, AreStubs, IsWork, IsOutput}
 use Rattle.jakstab_core.specs.Says.{IsCommandRefused, IsTextOf}
-use Rattle.jakstab_core.specs.Due.{OfBytes, OfImage}
+use Rattle.jakstab_core.specs.Due.{OfBytes, OfImage, OrMemory}
 
 -- ---- a part of a call's reading
 
@@ -58,6 +59,11 @@ module _ (r : Reading) (command : Command) where
     pub stubs_refused : (status : Status) → AreRefused r (stub_sources (stubs_of command)) status → IsCommandRefused r command status
     stubs_refused status why = inr ((image.0, image.1, (laid_out, image.2)), why)
 
+    -- of which the shelf was asked later
+    pub stubs_refused_later : (later : Reading) → IsLater r later → (status : Status) → OrMemory (AreRefused later (stub_sources (stubs_of command))) status → OrMemory (IsCommandRefused r command) status
+    stubs_refused_later later is status (inl memory) = inl memory
+    stubs_refused_later later is status (inr why) = inr (stubs_refused status (are_refused_later r later is (stub_sources (stubs_of command)) status why))
+
     module _ (stubs : StatedStubs) (stated : AreStubs r.held (stubs_of command) stubs) (work : Work) (due : IsWork r.held command work) where
       prepared : (image_there : Image) → {Fact : Image → Type 0} → OfImage laid_out stubs Fact → Prepared r.held command
       prepared image_there found = record {
@@ -73,4 +79,10 @@ module _ (r : Reading) (command : Command) where
       }
 
       pub text_found : (text : List ℕ) → OfImage laid_out stubs (λ there. IsOutput work stubs there text) → IsTextOf r.held command text
+      unfolding prepared
       text_found text found = record { prepared = prepared found.image found; is = found.fact }
+
+-- the stubs of a demo image are refused
+pub demo_stubs_refused : (r : Reading) (text : List ℕ) (status : Status) → text ≡ demo_stubs → OrMemory (IsFaulty StubFile text) status → OrMemory (AreRefused r (stub_sources (Some (Made demo_stubs)))) status
+demo_stubs_refused r text status is (inl memory) = inl memory
+demo_stubs_refused r text status is (inr why) = inr (inl (inr (inr (text, is, why))))

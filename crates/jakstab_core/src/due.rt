@@ -1,4 +1,5 @@
-ghost use Rattle.std.specs.Prelude.{MatchResult, map, option_map, string_bytes};
+ghost use Rattle.std.specs.Prelude.{MatchResult, Option, map, option_map, string_bytes};
+ghost use Rattle.outside_io.specs.Outside.{Contents};
 ghost use Rattle.command_words.specs.Reader.{task_of};
 ghost use Rattle.command_words.specs.Words.{Demo, on_image};
 ghost use Rattle.jakstab_core.specs.Due.{OrMemory};
@@ -48,7 +49,7 @@ fn on_image<R: Threads + Sync, S: Shelf>(
 
 // What a task does.
 fn work_of(task: Task) -> Work
-    ensures { IsTaskWork None (task_of task) result }
+    ensures { (held : Option Contents) → IsTaskWork held (task_of task) result }
 {
     match task {
         Task::Recover { options, version } => Work::Recover { options, version },
