@@ -15,7 +15,7 @@ use Rattle.flow_log.specs.declared.edge.Label.TheVariants as labels
 use Rattle.x86_machine.specs.Machine.{label_by, instr_bytes}
 use Rattle.abstract_state.specs.State.{Known}
 use Rattle.abstract_state.specs.Expanding.{Expanded, ended, stopped}
-use Rattle.transfer_functions.specs.KnownCode.{is_cut, known_run}
+use Rattle.transfer_functions.specs.Fetching.{is_cut, known_run}
 use Rattle.transfer_functions.specs.Post.{expand_instr}
 use Rattle.flow_worklist.specs.declared.site.Site.{Site}
 use Rattle.flow_worklist.specs.declared.site.Site.TheVariants.{Exit, Import, Code}

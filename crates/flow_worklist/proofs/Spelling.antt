@@ -30,7 +30,7 @@ use Rattle.domain_laws.specs.Laws.{Values}
 use Rattle.abstract_state.specs.State.{Known, covers_state, start_state}
 use Rattle.flow_worklist.specs.declared.site.Site.{Site}
 use Rattle.flow_worklist.specs.declared.site.Site.TheVariants.{Exit, Import, Code}
-use Rattle.transfer_functions.specs.KnownCode.{known_run}
+use Rattle.transfer_functions.specs.Fetching.{known_run}
 use Rattle.flow_worklist.specs.Post.{post, site_at}
 use Rattle.flow_worklist.specs.Analysis.{ImageLog, analysis_of, image_log, automaton_of, edge_from, open_mark, widened_by}
 use Rattle.flow_worklist.proofs.Posting.{no_pair, import_named, code_unnamed, post_is, post_code_is}

@@ -32,14 +32,15 @@ use Rattle.abstract_state.proofs.Covering.{covering-is_sound}
 use Rattle.abstract_state.proofs.Raising.{widening-is_sound, widening-keeps_well}
 use Rattle.transfer_functions.specs.Laws.{IsFoundIn}
 use Rattle.transfer_functions.specs.Post.{expand_instr}
-use Rattle.transfer_functions.proofs.Soundness.{instructions-are_sound, instructions-keep_well, known-code_is_fetched}
+use Rattle.transfer_functions.proofs.Soundness.{instructions-are_sound, instructions-keep_well}
+use Rattle.transfer_functions.proofs.Fetching.{known-fetched}
 use Rattle.import_stubs.specs.Laws.{IsFoundByPlaces}
 use Rattle.import_stubs.specs.Stub.{expand_at, expand_stub}
 use Rattle.import_stubs.proofs.KeepCalls.{call-keeps_well}
 use Rattle.import_stubs.proofs.SoundStubs.{stub-is_sound}
 use Rattle.flow_worklist.specs.declared.site.Site.{Site}
 use Rattle.flow_worklist.specs.declared.site.Site.TheVariants.{Exit, Import, Code}
-use Rattle.transfer_functions.specs.KnownCode.{is_cut, known_run}
+use Rattle.transfer_functions.specs.Fetching.{is_cut, known_run}
 use Rattle.flow_worklist.specs.Post.{post, post_code, site_at, unlisted_cause}
 use Rattle.flow_worklist.specs.Analysis.{analysis_of, edge_from, widened_by}
 use Rattle.flow_worklist.proofs.Posting.{no_pair, expand-named, expand-unnamed, site-code, site-import, post_is, post_code_is}
@@ -102,7 +103,7 @@ module _ {D : Type 0} (d : Values D) (l : IsLawful d) (image : Image) (s : Known
   byte_there i less =
       let bytes = known_run d image s m.eip in
       let at : slice_get bytes i ≡ Some (get_or bytes i 0) = slice_get-get_or bytes i 0 less in
-      known-code_is_fetched d l image s p m m.eip i (get_or bytes i 0) h at ∙ sym at
+      known-fetched d l image s p m m.eip i (get_or bytes i 0) h at ∙ sym at
 
 module _ {D : Type 0} (d : Values D) (l : IsLawful d) (image : Image) (stubs : StatedStubs) (loads : IsLoaded image) (k : ℕ) (s : Known D) (p : Places) (m next : MachineState)
     (well : IsWellState d s) (h : Describes d image s p m) (never : (c : Cause) → Contains (post d image stubs k m.eip s).causes c → ⊥) where

@@ -20,7 +20,7 @@ use Rattle.domain_laws.specs.Laws.{Values}
 use Rattle.abstract_state.specs.State.{Known, start_state, covers_state}
 use Rattle.abstract_state.specs.Expanding.{Written}
 use Rattle.abstract_state.specs.Widening.{seen_of, widened_state}
-use Rattle.transfer_functions.specs.KnownCode.{known_run}
+use Rattle.transfer_functions.specs.Fetching.{known_run}
 use Rattle.flow_worklist.specs.Post.{post}
 
 abbrev pub ImageAnalysis : Type 0 → Type 0

@@ -11,7 +11,7 @@ use Rattle.flow_log.specs.Run.{Follows, IsRun}
 use Rattle.x86_machine.specs.Machine.{machine_of}
 use Rattle.abstract_state.specs.Describes.{IsDescribed}
 use Rattle.abstract_state.specs.State.{Known}
-use Rattle.transfer_functions.specs.KnownCode.{known_run}
+use Rattle.transfer_functions.specs.Fetching.{known_run}
 use Rattle.flow_worklist.specs.Analysis.{ImageLog, analysis_of, image_log}
 
 module _ {D : Type 0} (d : Values D) where

@@ -10,7 +10,7 @@ use Rattle.flow_log.specs.declared.cause.Cause.TheVariants as causes
 use Rattle.abstract_state.specs.State.{Known}
 use Rattle.abstract_state.specs.Expanding.{Expanded, ended, stopped}
 use Rattle.stub_file.specs.Stubs.{StatedStubs}
-use Rattle.transfer_functions.specs.KnownCode.{is_cut, known_run}
+use Rattle.transfer_functions.specs.Fetching.{is_cut, known_run}
 use Rattle.transfer_functions.specs.Post.{expand_instr}
 use Rattle.import_stubs.specs.Stub.{expand_at}
 use Rattle.flow_worklist.specs.declared.site.Site.{Site}
@@ -28,16 +28,16 @@ site_at image a = if a == EXIT_PLACE then Exit else site_by (name_at image a)
 abbrev pub unlisted_cause : Bool → List ℕ → Cause
 unlisted_cause cut bytes = if cut && is_truncated bytes then causes.Code else causes.Bytes
 
-module _ {D : Type 0} (d : Values D) (image : Image) (stubs : StatedStubs) (k : ℕ) where
-  -- by the instruction with which the known bytes begin, or none
-  abbrev pub post_code : Option (Instr × ℕ) → ℕ → Known D → Expanded D
-  post_code (Some p) a s = expand_instr d image k p.0 a p.1 s
-  post_code None a s = stopped (unlisted_cause (is_cut d image s a) (known_run d image s a)) []
+-- at code, by the instruction with which the known bytes begin, or none
+abbrev pub post_code : {D : Type 0} → Values D → Image → ℕ → Option (Instr × ℕ) → ℕ → Known D → Expanded D
+post_code d image k (Some p) a s = expand_instr d image k p.0 a p.1 s
+post_code d image k None a s = stopped (unlisted_cause (is_cut d image s a) (known_run d image s a)) []
 
+module _ {D : Type 0} (d : Values D) (image : Image) (stubs : StatedStubs) (k : ℕ) where
   abbrev pub post_at : Site → ℕ → Known D → Expanded D
   post_at Exit a s = ended []
   post_at Import a s = expand_at d image stubs a s
-  post_at Code a s = post_code (decoded (known_run d image s a)) a s
+  post_at Code a s = post_code d image k (decoded (known_run d image s a)) a s
 
   -- the expansion of a row at an address
   unfoldable pub post : ℕ → Known D → Expanded D

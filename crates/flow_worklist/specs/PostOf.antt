@@ -10,7 +10,7 @@ use Rattle.abstract_state.specs.State.{Known}
 use Rattle.abstract_state.specs.Expanding.{Expanded}
 use Rattle.stub_file.specs.Stubs.{StatedStubs}
 use Rattle.flow_worklist.specs.declared.post.Post.{Post}
-use Rattle.transfer_functions.specs.KnownCode.{known_run}
+use Rattle.transfer_functions.specs.Fetching.{known_run}
 use Rattle.flow_worklist.specs.Post.{post, post_code}
 
 module _ {D : Type 0} (d : Values D) (image : Image) (k : ℕ) where

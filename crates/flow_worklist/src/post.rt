@@ -5,7 +5,7 @@ ghost use Rattle.memory_map.specs.Image.{name_at};
 ghost use Rattle.x86_syntax.specs.Decodes.{decoded};
 ghost use Rattle.x86_machine.specs.Machine.{label_by};
 ghost use Rattle.abstract_state.specs.Expanding.{stopped};
-ghost use Rattle.transfer_functions.specs.KnownCode.{known_run};
+ghost use Rattle.transfer_functions.specs.Fetching.{known_run};
 ghost use Rattle.flow_worklist.specs.Post.{unlisted_cause};
 ghost use Rattle.flow_worklist.specs.PostOf.{IsCodeOf, IsPostOf};
 
