@@ -1,7 +1,7 @@
 -- What an image has at an address, and the expansion of a row there.
 use Rattle.std.proofs.Common.{◌≡◌, ℕ, Bool, true, false, List, [], take, cond, Option, Some, None, refl, sym, ◌∙◌, ap, subst, ◌==◌, inl, inr}
 use Rattle.std.proofs.lemmas.Bool.{eq-eqb, ne_eqb}
-use Rattle.std.specs.Prelude.{Contains}
+use Rattle.std.specs.Prelude.{Contains, IfOk, Result, Ok, Err}
 use Rattle.std.specs.Option.{IsSome, option_map_or}
 use Rattle.domain_laws.specs.Laws.{Values}
 use Rattle.stub_file.specs.Stubs.{StatedStubs}
@@ -10,6 +10,10 @@ use Rattle.flow_log.proofs.Members.{Contains-none}
 use Rattle.memory_map.specs.Image.{Image, EXIT_PLACE, name_at}
 use Rattle.x86_syntax.specs.declared.instr.Instr.{Instr}
 use Rattle.x86_syntax.specs.Decodes.{decoded}
+use Rattle.x86_decoder.specs.declared.fault.DecodeFault.TheVariants.{NotListed, TooLong}
+use Rattle.x86_decoder.specs.Refusals.{Refused, is_truncated}
+use Rattle.x86_decoder.proofs.Fronts.{goes_on_front, not_both}
+use Rattle.flow_log.specs.declared.cause.Cause.TheVariants as causes
 use Rattle.flow_log.specs.declared.edge.Label.{Label}
 use Rattle.flow_log.specs.declared.edge.Label.TheVariants as labels
 use Rattle.x86_machine.specs.Machine.{label_by, instr_bytes}
@@ -60,6 +64,21 @@ module _ (image : Image) (a : ℕ) where
   pub code_unnamed : site_at image a ≡ Code → name_at image a ≡ None
   unfolding site_at
   code_unnamed is = unnamed_by (a == EXIT_PLACE) (name_at image a) is
+
+-- bytes that no more bytes make an instruction are the cause `bytes`
+no_code : (cut : Bool) (bytes : List ℕ) → is_truncated bytes ≡ false → causes.Bytes ≡ unlisted_cause cut bytes
+no_code true bytes none = sym (ap (λ b. cond b causes.Code causes.Bytes) none)
+no_code false bytes none = refl
+
+is_false : (b : Bool) → (b ≡ true → ⊥) → b ≡ false
+is_false true never = absurd (never refl)
+is_false false never = refl
+
+pub not_listed : (cut : Bool) (bytes : List ℕ) (at : ℕ) → Refused (NotListed at) bytes → causes.Bytes ≡ unlisted_cause cut bytes
+not_listed cut bytes at refused = no_code cut bytes (is_false (is_truncated bytes) (λ on. not_both at bytes refused (goes_on_front bytes on)))
+
+pub too_long : (cut : Bool) (bytes : List ℕ) → Refused TooLong bytes → causes.Bytes ≡ unlisted_cause cut bytes
+too_long cut bytes refused = no_code cut bytes (is_false (is_truncated bytes) refused.1)
 
 -- the expansion at an import's place is that of its name
 module _ {D : Type 0} (d : Values D) (image : Image) (stubs : StatedStubs) (a : ℕ) (s : Known D) where
@@ -125,3 +144,7 @@ module _ {D : Type 0} (d : Values D) (image : Image) (stubs : StatedStubs) (k a 
       | inr label ↦ inr (ap (λ o. label_by o (known_there d image k a s)) (code_unnamed image a is) ∙ label)
     ];
   }
+
+  pub with_code_ok : {E : Type 0} (r : Result (Post D) E) → site_at image a ≡ Code → IfOk r (IsCodeOf d image k a s) → IfOk r (IsPostOf d image stubs k a s)
+  with_code_ok (Ok answer) is h = with_code answer is h
+  with_code_ok (Err fault) is h = tt

@@ -201,7 +201,7 @@ module _ {D : Type 0} (d : Values D) (l : IsLawful d) (image : Image) (stubs : S
   call_is choice g =
       post_is d image stubs k m.eip s Import (site-import image m.eip g.name g.runs g.named) ∙ expand-named d image stubs m.eip s g.name g.named
 
-  call_found : (choice : Choice) (g : IsCalled image stubs choice m next) → IsFoundByPlaces d image (expand_stub d image stubs g.name s) m next
+  call_found : (choice : Choice) (g : IsCalled image stubs choice m next) → IsFoundByPlaces d image (expand_stub d image stubs g.name s) next
   call_found choice g =
       let x = expand_stub d image stubs g.name s in
       let r = returning g.stub g.stub.reply choice g.at in
@@ -224,7 +224,7 @@ module _ {D : Type 0} (d : Values D) (l : IsLawful d) (image : Image) (stubs : S
 
   -- ---- any step
 
-  pub any_found : (choice : Choice) → IsStepped image choice m next ⊎ IsCalled image stubs choice m next
+  any_found : (choice : Choice) → IsStepped image choice m next ⊎ IsCalled image stubs choice m next
       → IsFound (analysis_of d image stubs k) (machine_of image stubs) (IsDescribed d image) s m next
   any_found choice (inl is) = found choice (doing choice is)
   any_found choice (inr g) = called choice g

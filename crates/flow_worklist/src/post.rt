@@ -124,7 +124,8 @@ fn unlisted_cause(known: &KnownCode) -> Cause
     }
     match decode(known.bytes.as_slice()) {
         Err(DecodeFault::Truncated) => Cause::Code,
-        Err(_) => Cause::Bytes,
+        Err(DecodeFault::NotListed { .. }) => Cause::Bytes,
+        Err(DecodeFault::TooLong) => Cause::Bytes,
         Ok(_) => unreachable!(),
     }
 }
