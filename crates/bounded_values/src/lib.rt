@@ -7,6 +7,7 @@ mod domain;
 mod rules;
 mod value;
 
+pub use rules::{is_outside, is_stack_mask, offset_down, offset_up, rounded_down, unit_of};
 pub use value::Bounded;
 
 #[cfg(test)]

@@ -48,13 +48,15 @@ fn place_less(a: Bounded, b: Bounded) -> Option<Bounded>
     }
 }
 
-fn offset_up(o: i32, n: u32) -> i32
+/// An offset plus a number, wrapped to a signed number of 32 bits.
+pub fn offset_up(o: i32, n: u32) -> i32
     ensures { result ≡ offset_up o n }
 {
     o.wrapping_add_unsigned(n)
 }
 
-fn offset_down(o: i32, n: u32) -> i32
+/// An offset less a number, wrapped to a signed number of 32 bits.
+pub fn offset_down(o: i32, n: u32) -> i32
     ensures { result ≡ offset_down o n }
 {
     o.wrapping_sub_unsigned(n)
@@ -117,22 +119,22 @@ fn masked_at(o: i32, n: u32, align: u32) -> Option<Bounded>
     }
 }
 
-// Whether n is 2^32 less a power of two that is at most the alignment.
-fn is_stack_mask(n: u32, align: u32) -> bool
+/// Whether `n` is 2^32 less a power of two that is at most the alignment.
+pub fn is_stack_mask(n: u32, align: u32) -> bool
     ensures { result ≡ is_stack_mask n align }
 {
     unit_of(n).is_power_of_two() && unit_of(n) <= align
 }
 
-// The number of which n is the negative.
-fn unit_of(n: u32) -> u32
+/// The number of which `n` is the negative, modulo 2^32.
+pub fn unit_of(n: u32) -> u32
     ensures { result ≡ unit_of n }
 {
     n.wrapping_neg()
 }
 
-// An offset less its remainder by a power of two.
-fn rounded_down(o: i32, unit: u32) -> i32
+/// An offset less its remainder by a power of two.
+pub fn rounded_down(o: i32, unit: u32) -> i32
     requires { IsTrue (is_power_of_two unit) }
     ensures { result ≡ rounded_down o unit }
 {
@@ -171,8 +173,8 @@ fn outside_place(n: u32, v: Bounded) -> Option<Bounded>
     }
 }
 
-// Whether no region has a byte at this address.
-fn is_outside(n: u32) -> bool
+/// Whether no region has a byte at this address.
+pub fn is_outside(n: u32) -> bool
     ensures { result ≡ is_outside n }
 {
     n < 4096 || n >= 0xF000_0000

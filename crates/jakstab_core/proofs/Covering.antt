@@ -1,99 +1,106 @@
 -- The headline: the theorem on the log, carried to the lines of its text.
-use Rattle.std.proofs.Common.{◌≡◌, ℕ, List, [], ◌∷◌, map, subst}
-use Rattle.std.specs.Prelude.{Contains, ⊤}
+use Rattle.std.proofs.Common.{◌≡◌, ℕ, List, [], ◌∷◌, map, subst, refl, sym, ◌∙◌}
+use Rattle.std.specs.Prelude.{Contains}
 use Rattle.memory_map.specs.Image.{Image, IsLoaded}
 use Rattle.memory_map.specs.State.{MachineState}
-use Rattle.memory_map.specs.Start.{Start}
 use Rattle.stub_file.specs.Stubs.{StatedStubs}
 use Rattle.flow_log.specs.declared.edge.Edge.{Edge}
 use Rattle.flow_log.specs.declared.cause.Cause.{Cause}
-use Rattle.flow_log.specs.Log.{Mark, IsOpen, marks_of, pair_of}
-use Rattle.flow_log.specs.Run.{IsRun, Follows}
-use Rattle.flow_log.specs.Sound.{Sound, IsKnown}
+use Rattle.flow_log.specs.Log.{Mark, IsOpen, marks_of}
+use Rattle.flow_log.specs.Run.{Follows}
 use Rattle.flow_log.proofs.Members.{Contains-map}
-use Rattle.flow_log.proofs.Closing.{log_closed, rows_well}
-use Rattle.flow_log.proofs.Induction.{start_known, run_follows}
 use Rattle.flow_log.proofs.Orders.{Contains-edge_set}
 use Rattle.x86_machine.specs.Machine.{machine_of, edge_of}
-use Rattle.automaton_text.specs.Text.{edge_line, open_line}
-use Rattle.automaton_text.proofs.Orders.{Contains-mark_set}
+use Rattle.automaton_text.specs.Text.{edge_line, text_of, without_row}
+use Rattle.automaton_text.specs.declared.automaton.Automaton.{Automaton}
+use Rattle.automaton_text.specs.declared.automaton.OpenMark.{OpenMark}
+use Rattle.automaton_text.proofs.Firsts.{IsOpenedFirst, opened_first}
 use Rattle.domain_laws.specs.Laws.{Values, IsLawful}
 use Rattle.domain_laws.specs.FlatLaws.{flat, flat-lawful}
 use Rattle.bounded_values.specs.BoundedLaws.{bounded, bounded-lawful}
-use Rattle.abstract_state.specs.State.{IsWellState, Known}
-use Rattle.abstract_state.specs.Describes.{IsDescribed}
-use Rattle.abstract_state.proofs.Starting.{starts-are_described}
-use Rattle.flow_worklist.specs.Analysis.{ImageAnalysis, ImageLog, analysis_of, image_log, automaton_of, open_at, open_mark, HasLoadedCode}
-use Rattle.flow_worklist.specs.FixedCode.{HasFixedCode}
-use Rattle.flow_worklist.proofs.StepSound.{analysis_sound}
-use Rattle.flow_worklist.proofs.Starting.{start_has_code}
+use Rattle.interval_values.specs.IntervalLaws.{interval, interval-lawful}
+use Rattle.flow_worklist.specs.Analysis.{ImageAnalysis, ImageLog, analysis_of, image_log, automaton_of, open_mark}
+use Rattle.flow_worklist.specs.Laws.{IsKnownTo}
+use Rattle.flow_worklist.proofs.Following.{runs-are_followed}
 use Rattle.command_words.specs.declared.task.DomainName.{DomainName}
-use Rattle.command_words.specs.declared.task.DomainName.TheVariants.{Flat, Bounded}
+use Rattle.command_words.specs.declared.task.DomainName.TheVariants.{Flat, Bounded, Interval}
 use Rattle.command_words.specs.declared.task.Options.{Options}
-use Rattle.jakstab_core.specs.Headline.{HasLine, IsPrintedOpen, IsCovered, CoversRuns, log_text, text_over, recovered_text}
+use Rattle.command_words.specs.declared.task.TextVersion.{TextVersion}
+use Rattle.command_words.specs.declared.task.TextVersion.TheVariants.{First, Second}
+use Rattle.jakstab_core.specs.Headline.{HasLine, IsPrintedOpen, IsCovered, CoversRuns, log_automaton, automaton_over, in_version, recovered_text}
 use Rattle.jakstab_core.proofs.Lines.{has_edge_line, has_open_line}
 
-module _ {D : Type 0} (d : Values D) (lawful : IsLawful d) (image : Image) (stubs : StatedStubs) (fixed : HasFixedCode image) (loaded : IsLoaded image) (k budget : ℕ) where
+-- each version has the edges of the automaton
+edges_told : (version : TextVersion) (a : Automaton) → (in_version version a).edges ≡ a.edges
+edges_told First a = refl
+edges_told Second a = refl
+
+-- and a mark at each address that it marks
+record IsTold (version : TextVersion) (a : Automaton) (m : OpenMark) : Type 0 where
+  told : OpenMark
+  held : Contains (in_version version a).marks told
+  at : told.at ≡ m.at
+
+mark_told : (version : TextVersion) (a : Automaton) (m : OpenMark) → Contains a.marks m → IsTold version a m
+mark_told First a m held = record { told = without_row m; held = Contains-map without_row a.marks m held; at = refl }
+mark_told Second a m held = record { told = m; held = held; at = refl }
+
+module _ {D : Type 0} (d : Values D) (lawful : IsLawful d) (image : Image) (stubs : StatedStubs) (loaded : IsLoaded image) (k budget : ℕ) (version : TextVersion) where
   abbrev analysis : ImageAnalysis D
   analysis = analysis_of d image stubs k
 
   abbrev log : ImageLog D
   log = image_log d image stubs k budget
 
-  abbrev rows : List (ℕ × Known D)
-  rows = map pair_of log.rows
+  abbrev found : Automaton
+  found = log_automaton d image stubs k budget
 
-  abbrev IsInRows : MachineState → Type 0
-  IsInRows m = IsKnown (machine_of image stubs) (IsDescribed d image) (HasLoadedCode image) rows log.writes m
+  abbrev told : Automaton
+  told = in_version version found
 
-  sound : Sound analysis (machine_of image stubs) (IsWellState d) (IsDescribed d image) (HasLoadedCode image)
-  sound = analysis_sound d lawful image stubs k fixed loaded
+  mark_in : (mark : Mark Cause) → Contains (marks_of analysis log) mark → IsOpenedFirst (map open_mark (marks_of analysis log)) (open_mark mark)
+  mark_in mark held = opened_first (map open_mark (marks_of analysis log)) (open_mark mark) (Contains-map open_mark (marks_of analysis log) mark held)
 
-  known : (m : MachineState) → Start image m → IsInRows m
-  known m start =
-      start_known analysis (machine_of image stubs) (IsWellState d) (IsDescribed d image) (HasLoadedCode image) sound rows log.edges log.writes (IsOpen analysis log) (log_closed analysis budget)
-      (rows_well analysis (machine_of image stubs) (IsWellState d) (IsDescribed d image) (HasLoadedCode image) sound budget)
-      m start.entry (starts-are_described d lawful image m loaded start) (start_has_code image log.writes m start)
-
-  follows : (m : MachineState) (states : List MachineState) → Start image m → IsRun (machine_of image stubs) m states
-      → Follows (machine_of image stubs) IsInRows (IsOpen analysis log) log.edges m states
-  follows m states start run =
-      run_follows analysis (machine_of image stubs) (IsWellState d) (IsDescribed d image) (HasLoadedCode image) sound rows log.edges log.writes (IsOpen analysis log) (log_closed analysis budget)
-      (rows_well analysis (machine_of image stubs) (IsWellState d) (IsDescribed d image) (HasLoadedCode image) sound budget)
-      m states (known m start) run
+  first_told : (mark : Mark Cause) (first : IsOpenedFirst (map open_mark (marks_of analysis log)) (open_mark mark)) → IsTold version found first.first
+  unfolding log_automaton automaton_of
+  first_told mark first = mark_told version found first.first first.held
 
   -- a mark is printed
-  printed_mark : (a : ℕ) (mark : Mark Cause) → Contains (marks_of analysis log) mark → mark.location ≡ a → IsPrintedOpen (log_text d image stubs k budget) a
-  unfolding log_text automaton_of
+  printed_mark : (a : ℕ) (mark : Mark Cause) → Contains (marks_of analysis log) mark → mark.location ≡ a → IsPrintedOpen (text_of told) a
   printed_mark a mark held located =
-      let P : ℕ → Type 0 = λ at. HasLine (log_text d image stubs k budget) (open_line (open_at at mark.cause)) in (
-        mark.cause,
-        subst P located (has_open_line (automaton_of image stubs log) (open_mark mark)
-            (Contains-mark_set (map open_mark (marks_of analysis log)) (open_mark mark) (Contains-map open_mark (marks_of analysis log) mark held))),
-      )
+      let first : IsOpenedFirst (map open_mark (marks_of analysis log)) (open_mark mark) = mark_in mark held in
+      let there : IsTold version found first.first = first_told mark first in
+      (there.told, there.at ∙ first.at ∙ located, has_open_line told there.told there.held)
 
-  printed_open : (a : ℕ) → IsOpen analysis log a → IsPrintedOpen (log_text d image stubs k budget) a
+  printed_open : (a : ℕ) → IsOpen analysis log a → IsPrintedOpen (text_of told) a
   printed_open a open_there = printed_mark a open_there.mark open_there.in_marks open_there.located
 
-  printed_edge : (e : Edge) → Contains log.edges e → HasLine (log_text d image stubs k budget) (edge_line e)
-  unfolding log_text automaton_of
-  printed_edge e held = has_edge_line (automaton_of image stubs log) e (Contains-edge_set log.edges e held)
+  edge_in : (e : Edge) → Contains log.edges e → Contains found.edges e
+  unfolding log_automaton automaton_of
+  edge_in e held = Contains-edge_set log.edges e held
+
+  printed_edge : (e : Edge) → Contains log.edges e → HasLine (text_of told) (edge_line e)
+  printed_edge e held =
+      let P : List Edge → Type 0 = λ edges. Contains edges e in
+      has_edge_line told e (subst P (sym (edges_told version found)) (edge_in e held))
 
   covered : (m : MachineState) (states : List MachineState)
-      → Follows (machine_of image stubs) IsInRows (IsOpen analysis log) log.edges m states
-      → IsCovered image (log_text d image stubs k budget) m states
+      → Follows (machine_of image stubs) (IsKnownTo d image log) (IsOpen analysis log) log.edges m states
+      → IsCovered image (text_of told) m states
   covered m [] f = tt
   covered m (next ∷ rest) f = λ shut.
       let step = f.1 (λ at. shut (printed_open m.eip at)) in
       (printed_edge (edge_of image m next) step.0, covered next rest step.1)
 
-  log_covers : CoversRuns image stubs (log_text d image stubs k budget)
-  log_covers = λ m start states run. covered m states (follows m states start run)
+  log_covers : CoversRuns image stubs (text_of told)
+  log_covers = λ m start states run. covered m states (runs-are_followed d lawful image stubs k budget m states loaded start run)
 
-covers_over : (image : Image) (stubs : StatedStubs) → HasFixedCode image → IsLoaded image → (domain : DomainName) (k budget : ℕ) → CoversRuns image stubs (text_over domain image stubs k budget)
-covers_over image stubs fixed loaded Flat k budget = log_covers flat flat-lawful image stubs fixed loaded k budget
-covers_over image stubs fixed loaded Bounded k budget = log_covers bounded bounded-lawful image stubs fixed loaded k budget
+covers_over : (image : Image) (stubs : StatedStubs) → IsLoaded image → (domain : DomainName) (k budget : ℕ) (version : TextVersion)
+    → CoversRuns image stubs (text_of (in_version version (automaton_over domain image stubs k budget)))
+covers_over image stubs loaded Flat k budget version = log_covers flat flat-lawful image stubs loaded k budget version
+covers_over image stubs loaded Bounded k budget version = log_covers bounded bounded-lawful image stubs loaded k budget version
+covers_over image stubs loaded Interval k budget version = log_covers interval interval-lawful image stubs loaded k budget version
 
 -- no run leaves the printed automaton before a location that is printed open
-pub text_covers : (image : Image) (stubs : StatedStubs) → HasFixedCode image → IsLoaded image → (options : Options) → CoversRuns image stubs (recovered_text image stubs options)
-text_covers image stubs fixed loaded options = covers_over image stubs fixed loaded options.domain options.k options.budget
+pub text_covers : (image : Image) (stubs : StatedStubs) → IsLoaded image → (options : Options) (version : TextVersion) → CoversRuns image stubs (recovered_text image stubs options version)
+text_covers image stubs loaded options version = covers_over image stubs loaded options.domain options.k options.budget version

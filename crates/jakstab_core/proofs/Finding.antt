@@ -1,112 +1,88 @@
 -- From what the code finds on the way to what is due or refused.
-use Rattle.std.proofs.Common.{◌≡◌, ℕ, ◌<◌, ◌≤◌, ◌⊎◌, List, Option, Some, None, sym, subst, inl, inr, arith}
-use Rattle.std.specs.Prelude.{IsSomeAnd}
-use Rattle.outside_io.specs.Outside.{Rose}
+use Rattle.std.proofs.Common.{◌≡◌, ℕ, ◌<◌, ◌≤◌, ◌⊎◌, List, [], ◌∷◌, Option, Some, None, refl, sym, subst, inl, inr, arith}
+use Rattle.outside_io.specs.Outside.{Contents, Rose}
 use Rattle.memory_map.specs.Image.{Image}
-use Rattle.stub_file.specs.Stubs.{StatedStubs}
-use Rattle.image_loader.specs.Binding.{Loads}
-use Rattle.jakstab_core.specs.declared.status.Input.{Input}
+use Rattle.stub_file.specs.Stubs.{StatedStubs, States}
+use Rattle.image_loader.specs.Loading.{LaidOut, load_of}
+use Rattle.demo_images.specs.Demo.{demo_stubs}
 use Rattle.jakstab_core.specs.declared.status.Input.TheVariants as inputs
 use Rattle.jakstab_core.specs.declared.status.Status.{Status}
-use Rattle.jakstab_core.specs.declared.status.Status.TheVariants.{Done, VerdictNo, Usage, ReadFault, TooLong, WriteFault, ImageRefused, StubsRefused, Memory, InputRefused}
-use Rattle.command_words.specs.Words.{Command, command_of}
-use Rattle.jakstab_core.specs.Says.{Call, Reading, IsRead, IsDue, IsUnread, IsTooLong, IsFileRefused, HasNoFault, AreStubs, AreStubsRefused, IsRefused, IMAGE_LIMIT, STUBS_LIMIT}
-use Rattle.jakstab_core.specs.Due.{AreNoStubs, AreStubsNamedRefused, IsImageRefused, IsLoadRefused, IsReadRefused, IsTextOfImage}
+use Rattle.jakstab_core.specs.declared.work.Work.{Work}
+use Rattle.command_words.specs.Words.{Command}
+use Rattle.std.specs.Prelude.{Ok}
+use Rattle.jakstab_core.specs.Inputs.{Reading, Origin, File, Made, Source, StubFile, IsFaulty, IsFine, IsUnread, IsRefusedAt, AreRefused, image_of, stubs_of, image_source, stub_source, stub_sources, sources_of, limit_of}
+use Rattle.jakstab_core.specs.Tasks.{Prepared, AreStubs, IsWork, IsOutput}
+use Rattle.jakstab_core.specs.Says.{IsCommandRefused, IsTextOf}
+use Rattle.jakstab_core.specs.Due.{OfBytes, OfImage, OrMemory}
+
+-- ---- a part of a call's reading
 
 -- a count that rose after it had grown rose altogether
 rose_before : (before middle after : ℕ) → before ≤ middle → Rose middle after → Rose before after
 rose_before before middle after grown (inl rose) = inl (omega arith)
 rose_before before middle after grown (inr full) = inr full
 
-module _ (a : Call) where
-  pub read_refused : (command : Command) → command_of a.words ≡ Some command → (status : Status) → IsReadRefused a.shelf inputs.Image IMAGE_LIMIT command.image status → IsRefused status a
-  read_refused command accepted (ReadFault input) why =
-      let P : Input → Type 0 = λ i. IsRefused (ReadFault i) a in subst P (sym why.0) (record { command = command; accepted = accepted; fact = why.1 })
-  read_refused command accepted (TooLong input) why =
-      let P : Input → Type 0 = λ i. IsRefused (TooLong i) a in subst P (sym why.0) (record { command = command; accepted = accepted; fact = why.1 })
-  read_refused command accepted Memory why = tt
-  read_refused command accepted Done why = absurd why
-  read_refused command accepted VerdictNo why = absurd why
-  read_refused command accepted Usage why = absurd why
-  read_refused command accepted WriteFault why = absurd why
-  read_refused command accepted (ImageRefused n) why = absurd why
-  read_refused command accepted (StubsRefused n) why = absurd why
-  read_refused command accepted (InputRefused line kind) why = absurd why
+-- a shelf was asked later in a call, and not again
+pub record IsLater (r later : Reading) : Type 0 where
+  pub held : later.held ≡ r.held
+  pub before : (name : List ℕ) → r.faults_before name ≤ later.faults_before name
+  pub after : later.faults_after ≡ r.faults_after
 
-  module _ (bytes : List ℕ) (read : IsRead a bytes) where
-    pub load_refused : (status : Status) → IsLoadRefused bytes status → IsRefused status a
-    load_refused (ImageRefused n) why = record { bytes = bytes; read = read; fact = inl why }
-    load_refused Memory why = tt
-    load_refused Done why = absurd why
-    load_refused VerdictNo why = absurd why
-    load_refused Usage why = absurd why
-    load_refused (ReadFault input) why = absurd why
-    load_refused (TooLong input) why = absurd why
-    load_refused WriteFault why = absurd why
-    load_refused (StubsRefused n) why = absurd why
-    load_refused (InputRefused line kind) why = absurd why
+module _ (r later : Reading) (is : IsLater r later) where
+  unread_later : (origin : Origin) → IsUnread later origin → IsUnread r origin
+  unread_later (File name) rose =
+      let P : (List ℕ → ℕ) → Type 0 = λ counts. Rose (r.faults_before name) (counts name) in
+      subst P is.after (rose_before (r.faults_before name) (later.faults_before name) (later.faults_after name) (is.before name) rose)
+  unread_later (Made made) unread = unread
 
-    -- stubs that are refused, of which the shelf was asked after the image
-    module _ (fine : HasNoFault bytes) (later : Reading) (same : later.held ≡ a.shelf.held) (before : (name : List ℕ) → a.shelf.faults_before name ≤ later.faults_before name)
-        (after : later.faults_after ≡ a.shelf.faults_after) where
-      unread_there : (name : List ℕ) → IsUnread later name → IsUnread a.shelf name
-      unread_there name rose =
-          let P : (List ℕ → ℕ) → Type 0 = λ counts. Rose (a.shelf.faults_before name) (counts name) in
-          subst P after (rose_before (a.shelf.faults_before name) (later.faults_before name) (later.faults_after name) (before name) rose)
+  refused_later : (s : Source) (status : Status) → IsRefusedAt later s status → IsRefusedAt r s status
+  refused_later s status (inl why) = inl (why.0, unread_later s.origin why.1)
+  refused_later s status (inr why) =
+      let P : Option Contents → Type 0 = λ held. IsRefusedAt (record { held = held; faults_before = r.faults_before; faults_after = r.faults_after }) s status in
+      subst P is.held (inr why)
 
-      named_refused : (name : List ℕ) (status : Status) → read.command.stubs ≡ Some name → AreStubsNamedRefused later name status → IsRefused status a
-      named_refused name (ReadFault inputs.Stubs) is why =
-          let P : Option (List ℕ) → Type 0 = λ o. IsSomeAnd o (IsUnread a.shelf) in
-          record { bytes = bytes; read = read; fact = (fine, subst P (sym is) (unread_there name why)) }
-      named_refused name (TooLong inputs.Stubs) is why =
-          let P : Option (List ℕ) → Type 0 = λ o. IsSomeAnd o (IsTooLong a.shelf.held STUBS_LIMIT) in
-          let Q : _ → Type 0 = λ held. IsTooLong held STUBS_LIMIT name in
-          record { bytes = bytes; read = read; fact = (fine, subst P (sym is) (subst Q same why)) }
-      named_refused name (StubsRefused n) is why =
-          let P : Option (List ℕ) → Type 0 = λ o. IsSomeAnd o (AreStubsRefused a.shelf.held n) in
-          let Q : _ → Type 0 = λ held. AreStubsRefused held n name in
-          record { bytes = bytes; read = read; fact = (fine, subst P (sym is) (subst Q same why)) }
-      named_refused name Memory is why = tt
-      named_refused name Done is why = absurd why
-      named_refused name VerdictNo is why = absurd why
-      named_refused name Usage is why = absurd why
-      named_refused name (ReadFault inputs.Image) is why = absurd why
-      named_refused name (ReadFault inputs.First) is why = absurd why
-      named_refused name (ReadFault inputs.Second) is why = absurd why
-      named_refused name (TooLong inputs.Image) is why = absurd why
-      named_refused name (TooLong inputs.First) is why = absurd why
-      named_refused name (TooLong inputs.Second) is why = absurd why
-      named_refused name WriteFault is why = absurd why
-      named_refused name (ImageRefused n) is why = absurd why
-      named_refused name (InputRefused line kind) is why = absurd why
+  pub are_refused_later : (sources : List Source) (status : Status) → AreRefused later sources status → AreRefused r sources status
+  are_refused_later [] status why = why
+  are_refused_later (s ∷ rest) status (inl why) = inl (refused_later s status why)
+  are_refused_later (s ∷ rest) status (inr why) =
+      let P : Option Contents → Type 0 = λ held. IsFine held s in inr (subst P is.held why.0, are_refused_later rest status why.1)
 
-      pub stubs_refused : (o : Option (List ℕ)) (status : Status) → read.command.stubs ≡ o → AreNoStubs later o status → IsRefused status a
-      stubs_refused None status is why = absurd why
-      stubs_refused (Some name) status is why = named_refused name status is why
+-- ---- a command
 
-    -- the image with its stubs
-    module _ (stubs : StatedStubs) (stated : AreStubs a.shelf.held read.command.stubs stubs) (image : Image) (loads : Loads bytes stubs image) where
-      pub image_due : (text : List ℕ) → IsTextOfImage read.command.task stubs image text → IsDue a text
-      image_due text h = record {
-        has = record {
-          bytes = bytes;
-          read = read;
-          stubs = stubs;
-          stated = stated;
-          image = image;
-          taken = record { loads = loads; loaded = h.loaded; explored = h.explored };
-        };
-        is = h.is;
+module _ (r : Reading) (command : Command) where
+  -- the image is refused
+  pub image_refused : (status : Status) → IsRefusedAt r (image_source (image_of command)) status → IsCommandRefused r command status
+  image_refused status why = inl why
+
+  module _ (laid_out : LaidOut) (image : OfBytes r.held (limit_of inputs.Image) (image_of command) (λ bytes. load_of bytes ≡ Ok laid_out)) where
+    -- the image is fine, and the stubs are refused
+    pub stubs_refused : (status : Status) → AreRefused r (stub_sources (stubs_of command)) status → IsCommandRefused r command status
+    stubs_refused status why = inr ((image.0, image.1, (laid_out, image.2)), why)
+
+    -- of which the shelf was asked later
+    pub stubs_refused_later : (later : Reading) → IsLater r later → (status : Status) → OrMemory (AreRefused later (stub_sources (stubs_of command))) status → OrMemory (IsCommandRefused r command) status
+    stubs_refused_later later is status (inl memory) = inl memory
+    stubs_refused_later later is status (inr why) = inr (stubs_refused status (are_refused_later r later is (stub_sources (stubs_of command)) status why))
+
+    module _ (stubs : StatedStubs) (stated : AreStubs r.held (stubs_of command) stubs) (work : Work) (due : IsWork r.held command work) where
+      prepared : (image_there : Image) → {Fact : Image → Type 0} → OfImage laid_out stubs Fact → Prepared r.held command
+      prepared image_there found = record {
+        bytes = image.0;
+        read = image.1;
+        stubs = stubs;
+        stated = stated;
+        image = found.image;
+        loads = record { laid_out = laid_out; loads = image.2; is = found.is };
+        loaded = found.loaded;
+        work = work;
+        due = due;
       }
 
-      pub image_refused : (status : Status) → IsImageRefused read.command.task image status → IsRefused status a
-      image_refused (ImageRefused n) why = record { bytes = bytes; read = read; fact = inr (record { number = why.0; stubs = stubs; image = image; loads = loads; refused = why.1 }) }
-      image_refused Memory why = tt
-      image_refused Done why = absurd why
-      image_refused VerdictNo why = absurd why
-      image_refused Usage why = absurd why
-      image_refused (ReadFault input) why = absurd why
-      image_refused (TooLong input) why = absurd why
-      image_refused WriteFault why = absurd why
-      image_refused (StubsRefused n) why = absurd why
-      image_refused (InputRefused line kind) why = absurd why
+      pub text_found : (text : List ℕ) → OfImage laid_out stubs (λ there. IsOutput work stubs there text) → IsTextOf r.held command text
+      unfolding prepared
+      text_found text found = record { prepared = prepared found.image found; is = found.fact }
+
+-- the stubs of a demo image are refused
+pub demo_stubs_refused : (r : Reading) (text : List ℕ) (status : Status) → text ≡ demo_stubs → OrMemory (IsFaulty StubFile text) status → OrMemory (AreRefused r (stub_sources (Some (Made demo_stubs)))) status
+demo_stubs_refused r text status is (inl memory) = inl memory
+demo_stubs_refused r text status is (inr why) = inr (inl (inr (inr (text, is, why))))

@@ -1,4 +1,5 @@
 pub mod Lines
 pub mod Covering
+pub mod Printing
 pub mod Saying
 pub mod Finding

@@ -7,7 +7,7 @@ use Rattle.flow_log.proofs.Members.{Contains-cases, Contains-none}
 use Rattle.automaton_text.specs.declared.automaton.Automaton.{Automaton}
 use Rattle.automaton_text.specs.declared.automaton.Location.{Location}
 use Rattle.automaton_text.specs.declared.automaton.OpenMark.{OpenMark}
-use Rattle.automaton_text.specs.Text.{header_line, entry_line, loc_line, edge_line, open_line, end_line, text_of, suffix_of, label_text, cause_text}
+use Rattle.automaton_text.specs.Text.{header_line, entry_line, loc_line, edge_line, open_line, end_line, text_of, suffix_of, label_text, cause_text, row_suffix}
 use Rattle.text_fields.specs.Hex.{hex8}
 use Rattle.text_fields.specs.Line.{newline, space}
 use Rattle.jakstab_core.specs.Headline.{IsLineStart, HasLine}
@@ -58,15 +58,15 @@ edge_ends e = by_newline (codes "edge " ++ hex8 e.from ++ space ++ hex8 e.to ++ 
 
 open_ends : (m : OpenMark) → EndsLine (open_line m)
 unfolding open_line
-open_ends m = by_newline (codes "open " ++ hex8 m.at ++ space ++ cause_text m.cause)
+open_ends m = by_newline (codes "open " ++ hex8 m.at ++ space ++ cause_text m.cause ++ row_suffix m.row)
 
 module _ (a : Automaton) where
   head : List ℕ
-  head = header_line ++ entry_line a.entry
+  head = header_line a.version ++ entry_line a.entry
 
   head_starts : IsLineStart (head)
   unfolding head
-  head_starts = after_line header_line (entry_line a.entry) (by_newline (codes "entry " ++ hex8 a.entry))
+  head_starts = after_line (header_line a.version) (entry_line a.entry) (by_newline (codes "entry " ++ hex8 a.entry))
 
   last : List ℕ
   last = end_line (length a.locations) (length a.edges) (length a.marks)

@@ -1,59 +1,106 @@
 -- What follows of each status.
-use Rattle.std.proofs.Common.{◌≡◌, ℕ, ◌<◌, ◌≤◌, ◌⊎◌, List, length, Option, Some, None, refl, sym, ◌∙◌, ap, subst, inl, inr, arith}
+use Rattle.std.proofs.Common.{◌≡◌, ℕ, ◌<◌, ◌≤◌, ◌⊎◌, Bool, true, false, List, [], ◌∷◌, length, Option, Some, None, refl, sym, ◌∙◌, ap, subst, inl, inr, arith}
 use Rattle.std.specs.Prelude.{IsSomeAnd, MatchResult, OnOk, OnErr, Result, Ok, Err, Vec}
 use Rattle.std.specs.Global.{Global}
-use Rattle.outside_io.specs.Outside.{Contents, WhereHeld, IsWhole, Rose, Gained, GainedPrefix}
+use Rattle.outside_io.specs.Outside.{Contents, IsWhole, Rose, Gained, GainedPrefix}
 use Rattle.memory_map.specs.Image.{Image, IsLoaded}
-use Rattle.stub_file.specs.declared.fault.StubFault.{StubFault}
-use Rattle.stub_file.specs.Stubs.{StatedStubs, Refuses}
-use Rattle.image_loader.specs.Loading.{first_fault, load_of, fault_in}
-use Rattle.image_loader.specs.Binding.{Loads}
-use Rattle.jakstab_core.specs.declared.status.Input.TheVariants as inputs
+use Rattle.stub_file.specs.Stubs.{StatedStubs}
+use Rattle.image_loader.specs.Loading.{first_fault}
 use Rattle.jakstab_core.specs.declared.status.Status.{Status}
 use Rattle.jakstab_core.specs.declared.status.Status.TheVariants.{Done, VerdictNo, Usage, ReadFault, TooLong, WriteFault, ImageRefused, StubsRefused, Memory, InputRefused}
-use Rattle.command_words.specs.declared.task.Task.{Task}
-use Rattle.command_words.specs.declared.task.Task.TheVariants.{Recover, List as ListImage, Decode}
+use Rattle.jakstab_core.specs.declared.work.Work.{Work}
+use Rattle.jakstab_core.specs.declared.work.Work.TheVariants as works
 use Rattle.command_words.specs.Words.{Command, command_of}
 use Rattle.jakstab_core.specs.StatusLine.{status_line}
 use Rattle.jakstab_core.specs.Headline.{CoversRuns}
-use Rattle.jakstab_core.specs.Tasks.{IsTextOf, Covers}
-use Rattle.jakstab_core.specs.Says.{Call, Gain, Reading, Says, IsRead, IsDue, IsExplored, IsUnread, IsTooLong, IsFileRefused, IsUnexplored, OfCommand, AreStubsRefused, AreStubsHeld, IsHeld, IsRefused, IsUsageExact, IsFaultless, IsComplete, IsNoted, Answers, stub_number, IMAGE_LIMIT, STUBS_LIMIT}
-use Rattle.jakstab_core.specs.Due.{IsDelivered}
+use Rattle.jakstab_core.specs.Inputs.{Reading, Origin, File, Made, Kind, ImageFile, StubFile, Source, sources_of, IsFrom, IsFaulty, IsUnread, IsTooLong, IsRefusedAt, AreRefused, IsHeldFrom, AreHeld, stub_number, limit_of}
+use Rattle.jakstab_core.specs.Tasks.{IsOutput, Covers}
+use Rattle.jakstab_core.specs.Says.{Call, Gain, Says, OfCommand, IsDue, IsCommandRefused, IsRefused, IsUsageExact, IsFaultless, IsComplete, IsNoted, Answers}
+use Rattle.jakstab_core.specs.Due.{IsDelivered, OrMemory}
 use Rattle.jakstab_core.proofs.Covering.{text_covers}
 
--- the text of a task says of the machine's runs what it is to say
-covers_of : (task : Task) (stubs : StatedStubs) (image : Image) (text : List ℕ) → IsExplored task image → IsLoaded image → IsTextOf task stubs image text → Covers task stubs image text
-covers_of (Recover options) stubs image text explored loaded is =
-    let P : List ℕ → Type 0 = CoversRuns image stubs in subst P (sym is) (text_covers image stubs explored loaded options)
-covers_of ListImage stubs image text explored loaded is = tt
-covers_of (Decode address count) stubs image text explored loaded is = tt
+-- the text of work says of the machine's runs what it is to say
+covers_of : (work : Work) (stubs : StatedStubs) (image : Image) (text : List ℕ) → IsLoaded image → IsOutput work stubs image text → Covers work stubs image text
+covers_of (works.Recover options version) stubs image text loaded is =
+    let P : List ℕ → Type 0 = CoversRuns image stubs in subst P (sym is) (text_covers image stubs loaded options version)
+covers_of works.List stubs image text loaded is = tt
+covers_of (works.Decode address count) stubs image text loaded is = tt
+covers_of (works.Summarize blocks options) stubs image text loaded is = tt
+
+-- ---- which statuses tell of an input or of work on it
+
+abbrev is_of_input : Status → Bool
+is_of_input (ReadFault input) = true
+is_of_input (TooLong input) = true
+is_of_input (ImageRefused n) = true
+is_of_input (StubsRefused n) = true
+is_of_input (InputRefused line kind) = true
+is_of_input Done = false
+is_of_input VerdictNo = false
+is_of_input Usage = false
+is_of_input WriteFault = false
+is_of_input Memory = false
+
+numbered_status : (told : ℕ → Status) → ((n : ℕ) → is_of_input (told n) ≡ true) → (status : Status) (o : Option ℕ) → IsSomeAnd o (λ n. status ≡ told n) → is_of_input status ≡ true
+numbered_status told tells status None h = absurd h
+numbered_status told tells status (Some n) h = ap is_of_input h ∙ tells n
+
+faulty_status : (kind : Kind) (bytes : List ℕ) (status : Status) → IsFaulty kind bytes status → is_of_input status ≡ true
+faulty_status ImageFile bytes status h = numbered_status ImageRefused (λ n. refl) status (first_fault bytes) h
+faulty_status StubFile bytes status h = numbered_status StubsRefused (λ n. refl) status (stub_number h.0) h.2
+
+refused_status : (r : Reading) (s : Source) (status : Status) → IsRefusedAt r s status → is_of_input status ≡ true
+refused_status r s status (inl h) = ap is_of_input h.0
+refused_status r s status (inr (inl h)) = ap is_of_input h.0
+refused_status r s status (inr (inr h)) = faulty_status s.kind h.0 status h.2
+
+among_status : (r : Reading) (sources : List Source) (status : Status) → AreRefused r sources status → is_of_input status ≡ true
+among_status r [] status h = absurd h
+among_status r (s ∷ rest) status (inl h) = refused_status r s status h
+among_status r (s ∷ rest) status (inr h) = among_status r rest status h.1
+
+command_status : (r : Reading) (command : Command) (status : Status) → IsCommandRefused r command status → is_of_input status ≡ true
+command_status r command status h = among_status r (sources_of command) status h
+
+-- ---- from why a command is refused to what its status says
+
+without_memory : (Refused : Status → Type 0) (status : Status) → (status ≡ Memory → ⊥) → OrMemory Refused status → Refused status
+without_memory Refused status other (inl memory) = absurd (other memory)
+without_memory Refused status other (inr h) = h
 
 module _ (a : Call) where
+  pub refused : (command : Command) → command_of a.words ≡ Some command → (status : Status) → OrMemory (IsCommandRefused a.shelf command) status → IsRefused status a
+  refused command accepted Memory h = tt
+  refused command accepted Usage h =
+      absurd (let told : is_of_input Usage ≡ true = command_status a.shelf command Usage (without_memory (IsCommandRefused a.shelf command) Usage (λ e. cc) h) in cc)
+  refused command accepted Done h = record { command = command; accepted = accepted; fact = without_memory (IsCommandRefused a.shelf command) Done (λ e. cc) h }
+  refused command accepted VerdictNo h = record { command = command; accepted = accepted; fact = without_memory (IsCommandRefused a.shelf command) VerdictNo (λ e. cc) h }
+  refused command accepted WriteFault h = record { command = command; accepted = accepted; fact = without_memory (IsCommandRefused a.shelf command) WriteFault (λ e. cc) h }
+  refused command accepted (ReadFault input) h = record { command = command; accepted = accepted; fact = without_memory (IsCommandRefused a.shelf command) (ReadFault input) (λ e. cc) h }
+  refused command accepted (TooLong input) h = record { command = command; accepted = accepted; fact = without_memory (IsCommandRefused a.shelf command) (TooLong input) (λ e. cc) h }
+  refused command accepted (ImageRefused n) h = record { command = command; accepted = accepted; fact = without_memory (IsCommandRefused a.shelf command) (ImageRefused n) (λ e. cc) h }
+  refused command accepted (StubsRefused n) h = record { command = command; accepted = accepted; fact = without_memory (IsCommandRefused a.shelf command) (StubsRefused n) (λ e. cc) h }
+  refused command accepted (InputRefused line kind) h =
+      record { command = command; accepted = accepted; fact = without_memory (IsCommandRefused a.shelf command) (InputRefused line kind) (λ e. cc) h }
+
   -- words that are a command are not refused
-  accepted_not_refused : (command : Command) (status : Status) → command_of a.words ≡ Some command → (status ≡ Usage → ⊥) → IsUsageExact status a
-  accepted_not_refused command status accepted other = (λ is. absurd (other is), λ none. absurd (let e : Some command ≡ None = sym accepted ∙ none in cc))
+  not_usage : (status : Status) → (status ≡ Usage → ⊥) → {Fact : Command → Type 0} → OfCommand a Fact → IsUsageExact status a
+  not_usage status other of =
+      (λ is. absurd (other is), λ none. absurd (let e : Some of.command ≡ None = sym of.accepted ∙ none in cc))
 
   pub usage_exact : (status : Status) (out : Gain) → Says status a out → IsUsageExact status a
-  usage_exact Done out s = accepted_not_refused s.due.has.read.command Done s.due.has.read.accepted (λ e. cc)
+  usage_exact Done out s = not_usage Done (λ e. cc) s.due
+  usage_exact WriteFault out s = not_usage WriteFault (λ e. cc) s.due
   usage_exact Usage out s = (λ is. s.0, λ none. inl refl)
-  usage_exact (ReadFault inputs.Image) out s = accepted_not_refused s.0.command (ReadFault inputs.Image) s.0.accepted (λ e. cc)
-  usage_exact (TooLong inputs.Image) out s = accepted_not_refused s.0.command (TooLong inputs.Image) s.0.accepted (λ e. cc)
-  usage_exact (ImageRefused n) out s = accepted_not_refused s.0.read.command (ImageRefused n) s.0.read.accepted (λ e. cc)
-  usage_exact (ReadFault inputs.Stubs) out s = accepted_not_refused s.0.read.command (ReadFault inputs.Stubs) s.0.read.accepted (λ e. cc)
-  usage_exact (TooLong inputs.Stubs) out s = accepted_not_refused s.0.read.command (TooLong inputs.Stubs) s.0.read.accepted (λ e. cc)
-  usage_exact (StubsRefused n) out s = accepted_not_refused s.0.read.command (StubsRefused n) s.0.read.accepted (λ e. cc)
-  usage_exact WriteFault out s = accepted_not_refused s.due.has.read.command WriteFault s.due.has.read.accepted (λ e. cc)
   usage_exact Memory out s = (λ is. absurd (cc), λ none. inr refl)
-  usage_exact VerdictNo out s = absurd s.0
-  usage_exact (ReadFault inputs.First) out s = absurd s.0
-  usage_exact (ReadFault inputs.Second) out s = absurd s.0
-  usage_exact (TooLong inputs.First) out s = absurd s.0
-  usage_exact (TooLong inputs.Second) out s = absurd s.0
-  usage_exact (InputRefused line kind) out s = absurd s.0
+  usage_exact VerdictNo out s = not_usage VerdictNo (λ e. cc) s.0
+  usage_exact (ReadFault input) out s = not_usage (ReadFault input) (λ e. cc) s.0
+  usage_exact (TooLong input) out s = not_usage (TooLong input) (λ e. cc) s.0
+  usage_exact (ImageRefused n) out s = not_usage (ImageRefused n) (λ e. cc) s.0
+  usage_exact (StubsRefused n) out s = not_usage (StubsRefused n) (λ e. cc) s.0
+  usage_exact (InputRefused line kind) out s = not_usage (InputRefused line kind) (λ e. cc) s.0
 
-  -- the words are one command
-  one_command : (command other : Command) → command_of a.words ≡ Some command → command_of a.words ≡ Some other → command ≡ other
-  one_command command other x y = let e : Some command ≡ Some other = sym x ∙ y in cc
+-- ---- inputs that are held are not refused
 
 some_same : (x y : List ℕ) → Some x ≡ Some y → x ≡ y
 some_same x y e = cc
@@ -66,7 +113,7 @@ held_is (Some held) contents limit name bytes read tells content whole =
     some_same read bytes (sym whole.1 ∙ ap (λ (h : Contents). h name) same ∙ content)
 
 not_longer : (told : Option Contents) (contents : Contents) (limit : ℕ) (name bytes : List ℕ) → told ≡ Some contents → contents name ≡ Some bytes → length bytes ≤ limit
-    → IsTooLong told limit name → ⊥
+    → IsTooLong told limit (File name) → ⊥
 not_longer None contents limit name bytes tells content short longer = cc
 not_longer (Some held) contents limit name bytes tells content short longer =
     let same : held ≡ contents = cc in
@@ -75,61 +122,51 @@ not_longer (Some held) contents limit name bytes tells content short longer =
     let long : limit < length bytes = subst P there longer in
     omega arith
 
--- stubs that are held and not refused are read without a refusal
-module _ (s : Reading) (contents : Contents) (tells : s.held ≡ Some contents) where
-  stubs_read : (o : Option (List ℕ)) → AreStubsHeld s contents o → IsSomeAnd o (IsUnread s) → ⊥
-  stubs_read None h some = absurd some
-  stubs_read (Some name) h some = h.1.0.read some
+module _ (r : Reading) (contents : Contents) (tells : r.held ≡ Some contents) where
+  held_read : (limit : ℕ) (kind : Kind) (origin : Origin) → IsHeldFrom r contents limit kind origin → IsUnread r origin → ⊥
+  held_read limit kind (File name) h unread = h.3 unread
+  held_read limit kind (Made made) h unread = unread
 
-  stubs_short : (o : Option (List ℕ)) → AreStubsHeld s contents o → IsSomeAnd o (IsTooLong s.held STUBS_LIMIT) → ⊥
-  stubs_short None h some = absurd some
-  stubs_short (Some name) h some = not_longer s.held contents STUBS_LIMIT name h.0 tells h.1.0.content h.1.0.short some
+  held_short : (limit : ℕ) (kind : Kind) (origin : Origin) → IsHeldFrom r contents limit kind origin → IsTooLong r.held limit origin → ⊥
+  held_short limit kind (File name) h long = not_longer r.held contents limit name h.0 tells h.1 h.2 long
+  held_short limit kind (Made made) h long = long
 
-  stubs_taken : (n : ℕ) (o : Option (List ℕ)) → AreStubsHeld s contents o → IsSomeAnd o (AreStubsRefused s.held n) → ⊥
-  stubs_taken n None h some = absurd some
-  stubs_taken n (Some name) h some =
-      let same : some.text ≡ h.0 = held_is s.held contents STUBS_LIMIT name h.0 some.text tells h.1.0.content some.content in
-      let P : List ℕ → Type 0 = λ text. Refuses text some.fault in
-      let none : stub_number some.fault ≡ None = h.1.1 some.fault (subst P same some.refused) in
-      (let e : Some n ≡ None = sym some.numbered ∙ none in cc)
+  held_faultless : (limit : ℕ) (kind : Kind) (origin : Origin) → IsHeldFrom r contents limit kind origin → (bytes : List ℕ) → IsFrom r.held limit origin bytes → (status : Status) → IsFaulty kind bytes status → ⊥
+  held_faultless limit kind (File name) h bytes whole status faulty =
+      let P : List ℕ → Type 0 = λ l. IsFaulty kind l status in
+      h.4 status (subst P (held_is r.held contents limit name h.0 bytes tells h.1 whole) faulty)
+  held_faultless limit kind (Made made) h bytes whole status faulty =
+      let P : List ℕ → Type 0 = λ l. IsFaulty kind l status in h status (subst P whole faulty)
+
+  held_not_refused : (sources : List Source) → AreHeld r contents sources → (status : Status) → AreRefused r sources status → ⊥
+  held_not_refused [] h status why = why
+  held_not_refused (s ∷ rest) h status (inl (inl why)) = held_read (limit_of s.input) s.kind s.origin h.0 why.1
+  held_not_refused (s ∷ rest) h status (inl (inr (inl why))) = held_short (limit_of s.input) s.kind s.origin h.0 why.1
+  held_not_refused (s ∷ rest) h status (inl (inr (inr why))) = held_faultless (limit_of s.input) s.kind s.origin h.0 why.0 why.1 status why.2
+  held_not_refused (s ∷ rest) h status (inr why) = held_not_refused rest h.1 status why.1
 
 module _ (a : Call) (out : Gain) (f : IsFaultless a out) where
-  -- a fact of the command that the words are
-  of_command : (P : Command → Type 0) (command : Command) → command_of a.words ≡ Some command → P command → P f.command
-  of_command P command accepted h = subst P (one_command a command f.command accepted f.accepted) h
+  not_refused : (command : Command) (status : Status) → command ≡ f.command → IsCommandRefused a.shelf command status → ⊥
+  not_refused command status same why =
+      let P : Command → Type 0 = λ c. IsCommandRefused a.shelf c status in
+      held_not_refused a.shelf f.contents f.tells (sources_of f.command) f.inputs status (subst P same why)
 
-  -- and of the bytes of its image
-  of_file : (P : Command → List ℕ → Type 0) (bytes : List ℕ) (read : IsRead a bytes) → P read.command bytes → P f.command f.bytes
-  of_file P bytes read h =
-      let Q : Command → Type 0 = λ k. IsWhole a.shelf.held k.image IMAGE_LIMIT bytes × P k bytes in
-      let there : Q f.command = of_command Q read.command read.accepted (read.content, h) in
-      let same : bytes ≡ f.bytes = held_is a.shelf.held f.contents IMAGE_LIMIT f.command.image f.bytes bytes f.tells f.image.content there.0 in
-      subst (P f.command) same there.1
+  refusal : (status : Status) → OfCommand a (λ command. IsCommandRefused a.shelf command status) → ⊥
+  refusal status of =
+      let same : of.command ≡ f.command = (let e : Some of.command ≡ Some f.command = sym of.accepted ∙ f.accepted in cc) in
+      not_refused of.command status same of.fact
 
   pub completes : (status : Status) → Says status a out → (status ≡ Done) ⊎ (status ≡ Memory)
   completes Done s = inl refl
   completes Memory s = inr refl
   completes Usage s = absurd (let e : Some f.command ≡ None = sym f.accepted ∙ s.0 in cc)
-  completes (ReadFault inputs.Image) s = absurd (f.image.read (of_command (λ k. IsUnread a.shelf k.image) s.0.command s.0.accepted s.0.fact))
-  completes (TooLong inputs.Image) s =
-      absurd (not_longer a.shelf.held f.contents IMAGE_LIMIT f.command.image f.bytes f.tells f.image.content f.image.short
-      (of_command (λ k. IsTooLong a.shelf.held IMAGE_LIMIT k.image) s.0.command s.0.accepted s.0.fact))
-  completes (ImageRefused n) s = absurd (f.file n (of_file (IsFileRefused n) s.0.bytes s.0.read s.0.fact))
-  completes (ReadFault inputs.Stubs) s =
-      absurd (stubs_read a.shelf f.contents f.tells f.command.stubs f.stubs (of_command (λ k. IsSomeAnd k.stubs (IsUnread a.shelf)) s.0.read.command s.0.read.accepted s.0.fact.1))
-  completes (TooLong inputs.Stubs) s =
-      absurd (stubs_short a.shelf f.contents f.tells f.command.stubs f.stubs
-      (of_command (λ k. IsSomeAnd k.stubs (IsTooLong a.shelf.held STUBS_LIMIT)) s.0.read.command s.0.read.accepted s.0.fact.1))
-  completes (StubsRefused n) s =
-      absurd (stubs_taken a.shelf f.contents f.tells n f.command.stubs f.stubs
-      (of_command (λ k. IsSomeAnd k.stubs (AreStubsRefused a.shelf.held n)) s.0.read.command s.0.read.accepted s.0.fact.1))
   completes WriteFault s = absurd (f.written s.rose)
-  completes VerdictNo s = absurd s.0
-  completes (ReadFault inputs.First) s = absurd s.0
-  completes (ReadFault inputs.Second) s = absurd s.0
-  completes (TooLong inputs.First) s = absurd s.0
-  completes (TooLong inputs.Second) s = absurd s.0
-  completes (InputRefused line kind) s = absurd s.0
+  completes VerdictNo s = absurd (refusal VerdictNo s.0)
+  completes (ReadFault input) s = absurd (refusal (ReadFault input) s.0)
+  completes (TooLong input) s = absurd (refusal (TooLong input) s.0)
+  completes (ImageRefused n) s = absurd (refusal (ImageRefused n) s.0)
+  completes (StubsRefused n) s = absurd (refusal (StubsRefused n) s.0)
+  completes (InputRefused line kind) s = absurd (refusal (InputRefused line kind) s.0)
 
 -- what is said with what is noted is all that the top call keeps
 pub answers : (status : Status) (a : Call) (out note : Gain) → Says status a out → IsNoted (status_line status) note → Answers status a out note
@@ -141,13 +178,17 @@ done_says a out text due gained = record {
   text = text;
   due = due;
   gained = gained;
-  covers = covers_of due.has.read.command.task due.has.stubs due.has.image text due.has.taken.explored due.has.taken.loaded due.is;
+  covers =
+      covers_of due.fact.prepared.work due.fact.prepared.stubs due.fact.prepared.image text due.fact.prepared.loaded due.fact.is;
 }
 
 -- a refusal with nothing written
+not_of_input : (status : Status) (a : Call) → is_of_input status ≡ false → OfCommand a (λ command. IsCommandRefused a.shelf command status) → ⊥
+not_of_input status a other of = let told : is_of_input status ≡ true = command_status a.shelf of.command status of.fact in (let bad : false ≡ true = sym other ∙ told in cc)
+
 refused_says : (status : Status) (a : Call) (out : Gain) → IsRefused status a → out.after ≡ out.before → Says status a out
-refused_says Done a out why same = absurd why
-refused_says WriteFault a out why same = absurd why
+refused_says Done a out why same = absurd (not_of_input Done a refl why)
+refused_says WriteFault a out why same = absurd (not_of_input WriteFault a refl why)
 refused_says Usage a out why same = (why, same)
 refused_says (ReadFault input) a out why same = (why, same)
 refused_says (TooLong input) a out why same = (why, same)

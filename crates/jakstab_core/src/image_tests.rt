@@ -6,7 +6,7 @@ use std::test::Fail;
 use std::thread::Threads;
 
 const HIGHER: &str = "\
-jakstab-automaton 1
+jakstab-automaton 2
 entry 08448000
 loc 08448000
 edge 08448000 08448000 EBFE jmp 08448000
@@ -14,25 +14,25 @@ end 1 1 0
 ";
 
 const ENTRY_AT_THE_END: &str = "\
-jakstab-automaton 1
+jakstab-automaton 2
 entry FFFFFFFF
 loc FFFFFFFF
-open FFFFFFFF bytes
+open FFFFFFFF bytes 0
 end 1 0 1
 ";
 
 const ENTRY_AT_THE_EXIT: &str = "\
-jakstab-automaton 1
+jakstab-automaton 2
 entry F0000000
 loc F0000000 -
 end 1 0 0
 ";
 
 const CODE_ELSEWHERE: &str = "\
-jakstab-automaton 1
+jakstab-automaton 2
 entry 08048000
 loc 08048000
-open 08048000 bytes
+open 08048000 bytes 0
 end 1 0 1
 ";
 
@@ -66,12 +66,12 @@ end
 ";
 
 const PUTS: &str = "\
-jakstab-automaton 1
+jakstab-automaton 2
 entry 08048000
 loc 08048000
 loc F0000010 puts
 edge 08048000 F0000010 FF1500000009 call dword [09000000]
-open F0000010 nostub
+open F0000010 nostub 1
 end 2 1 1
 ";
 
@@ -86,10 +86,10 @@ end
 ";
 
 const UNKNOWN: &str = "\
-jakstab-automaton 1
+jakstab-automaton 2
 entry 08048000
 loc 08048000
-open 08048000 target
+open 08048000 target 0
 end 1 0 1
 ";
 
@@ -105,7 +105,7 @@ end
 
 // The slot holds 0, so the `int3` at 08048009 is stepped over.
 const WEAK: &str = "\
-jakstab-automaton 1
+jakstab-automaton 2
 entry 08048000
 loc 08048000
 loc 08048005

@@ -12,7 +12,7 @@ const MALLOC: &str = "[stub.malloc]\nargs = 4\nreply = \"block\"\nsize_arg = 0\n
 
 // The row with EAX 0 faults.
 const MALLOC_BLOCK: &str = "\
-jakstab-automaton 1
+jakstab-automaton 2
 entry 08048000
 loc 08048000
 loc 08048002
@@ -34,7 +34,7 @@ const FILL_WRITES: &str =
 // The address that ESP had is what is written through, so the return address is not known.
 const WRITTEN: &str = "\
 edge F0000010 0804800C import fill
-open 0804800D target
+open 0804800D target 5
 end 6 5 1
 ";
 
@@ -66,7 +66,7 @@ end 33 35 0
 const EXIT: &str = "[stub.ExitProcess]\nargs = 4\ncleans = 4\nreply = \"never\"\n";
 
 const PE_EXIT: &str = "\
-jakstab-automaton 1
+jakstab-automaton 2
 entry 00401000
 loc 00401000
 loc 00401002
@@ -120,14 +120,14 @@ static CALLS: [(&[u8], &[u8], &[&str], &str, &str); 6] = [
         b"malloc",
         FLAT,
         MALLOC,
-        "loc 08048000\nopen 08048000 store\nend 1 0 1\n",
+        "loc 08048000\nopen 08048000 store 0\nend 1 0 1\n",
     ),
     (
         CALL_MALLOC,
         b"calloc",
         WITH_STUBS,
         MALLOC,
-        "open F0000010 nostub\nend 3 2 1\n",
+        "open F0000010 nostub 2\nend 3 2 1\n",
     ),
     (CALL_FILL, b"fill", WITH_STUBS, FILL_WRITES, WRITTEN),
     (CALL_FILL, b"fill", WITH_STUBS, FILL, UNWRITTEN),

@@ -1,15 +1,22 @@
 // The program: its commands, its statuses, and the top call that does a command.
-// It stands on image_loader, flow_worklist, automaton_text, decode_listing and outside_io.
+// It stands on command_words, image_loader, flow_worklist, the texts and listings, and outside_io.
 // Its contract: `jakstab` keeps what `specs/Says.antt` states for each status, the headline among it.
 #![tactic(auto)]
 
 #[cfg(test)]
 mod decode_tests;
+#[cfg(test)]
+mod demo_tests;
 mod due;
 #[cfg(test)]
 mod image_tests;
 #[cfg(test)]
 mod import_tests;
+mod inputs;
+#[cfg(test)]
+mod interval_tests;
+#[cfg(test)]
+mod known_code_tests;
 #[cfg(test)]
 mod list_tests;
 #[cfg(test)]
@@ -20,9 +27,11 @@ mod sample_files;
 #[cfg(test)]
 mod sample_tests;
 mod status;
+mod summary;
 #[cfg(test)]
 mod tests;
 mod top;
+mod work;
 
 pub use status::{Input, Status};
 pub use top::jakstab;

@@ -60,17 +60,17 @@ fn texts_of_memory_and_of_faults_end_so(rt: HostRuntime) -> Result<(), Fail> {
             b"\x83\xF8\x02\x77\x07\xFF\x24\x85\x10\x80\x04\x08\xF4\xF4\xF4\xF4\x0D\x80\x04\x08\x0E\x80\x04\x08\x0F\x80\x04\x08",
             SWITCH_THREE,
         ),
-        (plain, &forty, "open 08048005 target\nend 4 3 1\n"),
+        (plain, &forty, "open 08048005 target 3\nend 4 3 1\n"),
         (sixty_four, &forty, "\nend 44 43 0\n"),
         (
             plain,
             b"\xFF\xE0",
-            "loc 08048000\nopen 08048000 target\nend 1 0 1\n",
+            "loc 08048000\nopen 08048000 target 0\nend 1 0 1\n",
         ),
         (
             plain,
             b"\x89\x08",
-            "loc 08048000\nopen 08048000 store\nend 1 0 1\n",
+            "loc 08048000\nopen 08048000 store 0\nend 1 0 1\n",
         ),
         (
             plain,
@@ -81,12 +81,12 @@ fn texts_of_memory_and_of_faults_end_so(rt: HostRuntime) -> Result<(), Fail> {
         (
             four,
             b"\xE8\xFB\xFF\xFF\xFF",
-            "open 08048000 store\nend 1 1 1\n",
+            "open 08048000 store 4\nend 1 1 1\n",
         ),
         (
             plain,
             b"\x81\xEC\0\0\x20\0\x50",
-            "edge 08048000 08048006 81EC00002000 sub esp, 00200000\nopen 08048006 stack\nend 2 1 1\n",
+            "edge 08048000 08048006 81EC00002000 sub esp, 00200000\nopen 08048006 stack 1\nend 2 1 1\n",
         ),
         (plain, b"\xB9\x02\0\0\0\xE2\xFE\xF4", LOOP_SELF),
         (

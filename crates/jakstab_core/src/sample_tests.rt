@@ -36,7 +36,7 @@ end
 
 // The steps that a processor took when it ran the program one by one, up to its `hlt`.
 const DAYS_AUTOMATON: &str = "\
-jakstab-automaton 1
+jakstab-automaton 2
 entry 08048100
 loc 08048074
 loc 08048075
@@ -165,7 +165,7 @@ end 58 65 0
 ";
 
 const GREET_AUTOMATON: &str = "\
-jakstab-automaton 1
+jakstab-automaton 2
 entry 080481E0
 loc 080481C0
 loc 080481E0
@@ -176,19 +176,19 @@ edge 080481C0 F0000020 FF25C4920408 jmp dword [080492C4]
 edge 080481E0 080481E3 83EC18 sub esp, 00000018
 edge 080481E3 080481E5 6A10 push 00000010
 edge 080481E5 080481C0 E8D6FFFFFF call 080481C0
-open F0000020 nostub
+open F0000020 nostub 4
 end 5 4 1
 ";
 
 const SQUARE_AUTOMATON: &str = "\
-jakstab-automaton 1
+jakstab-automaton 2
 entry 00401000
 loc 00401000
 loc 00401003
 loc F0000020 GetTickCount
 edge 00401000 00401003 83EC1C sub esp, 0000001C
 edge 00401003 F0000020 FF1538204000 call dword [00402038]
-open F0000020 nostub
+open F0000020 nostub 2
 end 3 2 1
 ";
 

@@ -1,6 +1,7 @@
 ghost use Rattle.std.specs.Prelude.{◌≡◌, ◌≤◌, ◌+◌, ◌++◌, codes, decimal, length};
 ghost use Rattle.arrayvec.specs.ArrayString.{array_string_len};
 ghost use Rattle.text_fields.specs.Line.{newline};
+ghost use Rattle.jakstab_core.specs.Inputs.{limit_of};
 ghost use Rattle.jakstab_core.specs.StatusLine.{input_text, status_line, status_number};
 
 use arrayvec::ArrayString;
@@ -13,6 +14,29 @@ pub enum Input {
     Stubs,
     First,
     Second,
+}
+
+/// The most bytes of an image file.
+const IMAGE_LIMIT: u64 = 16_777_216;
+
+/// The most bytes of a stub file.
+const STUBS_LIMIT: u64 = 1_048_576;
+
+/// The most bytes of any other input.
+const FURTHER_LIMIT: u64 = 67_108_864;
+
+impl Input {
+    /// The most bytes that it has.
+    pub fn limit(self) -> u64
+        ensures { result ≡ limit_of self }
+    {
+        match self {
+            Input::Image => IMAGE_LIMIT,
+            Input::Stubs => STUBS_LIMIT,
+            Input::First => FURTHER_LIMIT,
+            Input::Second => FURTHER_LIMIT,
+        }
+    }
 }
 
 /// How a call ended.

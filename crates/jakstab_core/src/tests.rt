@@ -71,7 +71,7 @@ pub fn check_text<R: Abort + Threads + Sync>(
 }
 
 pub const SELF_JUMP: &str = "\
-jakstab-automaton 1
+jakstab-automaton 2
 entry 08048000
 loc 08048000
 edge 08048000 08048000 EBFE jmp 08048000
@@ -79,7 +79,7 @@ end 1 1 0
 ";
 
 pub const JE_NEXT: &str = "\
-jakstab-automaton 1
+jakstab-automaton 2
 entry 08048000
 loc 08048000
 loc 08048002
@@ -89,7 +89,7 @@ end 2 1 0
 
 // The jump overlaps the two `nop` and the `hlt`, and leads out of the image.
 const JUMP_INTO_NEXT: &str = "\
-jakstab-automaton 1
+jakstab-automaton 2
 entry 08048000
 loc 08048000
 loc 08048002
@@ -102,13 +102,13 @@ edge 08048000 08048003 7401 je 08048003
 edge 08048002 08F91097 E99090F400 jmp 08F91097
 edge 08048003 08048004 90 nop
 edge 08048004 08048005 90 nop
-open 08F91097 bytes
+open 08F91097 bytes 4
 end 6 5 1
 ";
 
 // A jump to the exit place: an edge, a location with a dash, and nothing open.
 const JUMP_TO_EXIT: &str = "\
-jakstab-automaton 1
+jakstab-automaton 2
 entry 08048000
 loc 08048000
 loc F0000000 -
@@ -118,18 +118,18 @@ end 2 1 0
 
 // A jump to the address 0, where no byte of the image is.
 const JUMP_TO_ZERO: &str = "\
-jakstab-automaton 1
+jakstab-automaton 2
 entry 08048000
 loc 00000000
 loc 08048000
 edge 08048000 00000000 E9FB7FFBF7 jmp 00000000
-open 00000000 bytes
+open 00000000 bytes 1
 end 2 1 1
 ";
 
 // The `jmp` leads into itself: its second byte begins `inc eax`.
-const OVERLAP: &str = "\
-jakstab-automaton 1
+pub const OVERLAP: &str = "\
+jakstab-automaton 2
 entry 08048000
 loc 08048000
 loc 08048001
@@ -141,7 +141,7 @@ end 3 2 0
 
 // The comparison is known, so the `je` is taken alone.
 const KNOWN_COMPARE: &str = "\
-jakstab-automaton 1
+jakstab-automaton 2
 entry 08048000
 loc 08048000
 loc 08048005
@@ -155,7 +155,7 @@ end 4 3 0
 
 // A loop that counts: after four numbers any number is known, and the log has twelve rows.
 const COUNTING_LOOP: &str = "\
-jakstab-automaton 1
+jakstab-automaton 2
 entry 08048000
 loc 08048000
 loc 08048005
@@ -167,7 +167,7 @@ end 3 3 0
 ";
 
 const COUNTING_LOOP_SPENT: &str = "\
-jakstab-automaton 1
+jakstab-automaton 2
 entry 08048000
 loc 08048000
 loc 08048005
@@ -175,13 +175,13 @@ loc 08048006
 edge 08048000 08048005 B800000000 mov eax, 00000000
 edge 08048005 08048006 40 inc eax
 edge 08048006 08048005 EBFD jmp 08048005
-open 08048005 budget
+open 08048005 budget 11
 end 3 3 1
 ";
 
 // The sum and the difference are known, and DEC gives 0: the `jne` is not taken, and the `je` is.
 const KNOWN_ARITHMETIC: &str = "\
-jakstab-automaton 1
+jakstab-automaton 2
 entry 08048000
 loc 08048000
 loc 08048005
@@ -248,7 +248,6 @@ fn other_files_and_words_are_refused_and_write_nothing(rt: HostRuntime) -> Resul
     let alloc = rt.alloc();
     let whole = file_with(alloc, b"\xEB\xFE")?;
     let long = changed(file_with(alloc, b"\xEB\xFE")?, 68, b"\x03");
-    let patching = form_e(alloc, b"\xC6\x05\x07\x80\x04\x08\x90\xF4", 7)?;
     let rows: [(&[&str], &[u8], Status, &str); 9] = [
         (
             &["recover", "a"],
@@ -275,12 +274,6 @@ fn other_files_and_words_are_refused_and_write_nothing(rt: HostRuntime) -> Resul
             "jakstab: image refused 9\n",
         ),
         (
-            &["recover", "a"],
-            &patching,
-            Status::ImageRefused(300),
-            "jakstab: image refused 300\n",
-        ),
-        (
             &["recover", "b"],
             b"",
             Status::ReadFault(Input::Image),
@@ -288,6 +281,7 @@ fn other_files_and_words_are_refused_and_write_nothing(rt: HostRuntime) -> Resul
         ),
         (&["recover"], b"", Status::Usage, "jakstab: usage\n"),
         (&["recover", "-a"], b"", Status::Usage, "jakstab: usage\n"),
+        (&["demo", "2001"], b"", Status::Usage, "jakstab: usage\n"),
         (
             &["recover", "a", "a"],
             b"",

@@ -1,0 +1,134 @@
+-- The inputs of a command: where each comes from, what it is to be, and why it is refused.
+use Rattle.std.specs.Prelude.{ℕ, ◌≡◌, ◌≤◌, ◌<◌, ◌⊎◌, List, [], ◌∷◌, ◌++◌, length, Option, None, Some, Ok, IsSomeAnd, ⊤}
+use Rattle.outside_io.specs.Outside.{Contents, WhereHeld, IsWhole, Rose}
+use Rattle.stub_file.specs.declared.fault.StubFault.{StubFault}
+use Rattle.stub_file.specs.declared.fault.StubFault.TheVariants as stub_faults
+use Rattle.stub_file.specs.Stubs.{StatedStubs, States, Refuses}
+use Rattle.image_loader.specs.Loading.{LaidOut, load_of, first_fault}
+use Rattle.demo_images.specs.Demo.{demo_image, demo_stubs}
+use Rattle.jakstab_core.specs.declared.status.Input.{Input}
+use Rattle.jakstab_core.specs.declared.status.Input.TheVariants as inputs
+use Rattle.jakstab_core.specs.declared.status.Status.{Status}
+use Rattle.jakstab_core.specs.declared.status.Status.TheVariants.{ReadFault, TooLong, ImageRefused, StubsRefused}
+use Rattle.command_words.specs.Words.{Command, OnImage, Demo}
+
+-- what a shelf tells, and its counts of faults by name, before a call and after it
+pub record Reading : Type 0 where
+  pub held : Option Contents
+  pub faults_before : List ℕ → ℕ
+  pub faults_after : List ℕ → ℕ
+
+-- where the bytes of an input come from: a file of this name, or the command makes them
+pub data Origin : Type 0 where
+  File : List ℕ → Origin
+  Made : List ℕ → Origin
+
+-- what they are to be
+pub data Kind : Type 0 where
+  ImageFile : Kind
+  StubFile : Kind
+
+pub record Source : Type 0 where
+  pub input : Input
+  pub origin : Origin
+  pub kind : Kind
+
+-- an image file has at most so many bytes, a stub file, and any other input
+abbrev pub limit_of : Input → ℕ
+limit_of inputs.Image = 16777216
+limit_of inputs.Stubs = 1048576
+limit_of inputs.First = 67108864
+limit_of inputs.Second = 67108864
+
+-- ---- the inputs of each command, in the order in which they are read
+
+abbrev pub image_source : Origin → Source
+image_source origin = record { input = inputs.Image; origin = origin; kind = ImageFile }
+
+abbrev pub stub_source : Origin → Source
+stub_source origin = record { input = inputs.Stubs; origin = origin; kind = StubFile }
+
+abbrev pub stub_sources : Option Origin → List Source
+stub_sources None = []
+stub_sources (Some origin) = stub_source origin ∷ []
+
+abbrev pub image_of : Command → Origin
+image_of (OnImage command) = File command.image
+image_of (Demo blocks options) = Made (demo_image blocks)
+
+abbrev pub named_file : Option (List ℕ) → Option Origin
+named_file None = None
+named_file (Some name) = Some (File name)
+
+abbrev pub stubs_of : Command → Option Origin
+stubs_of (OnImage command) = named_file command.stubs
+stubs_of (Demo blocks options) = Some (Made demo_stubs)
+
+abbrev pub sources_of : Command → List Source
+sources_of command = image_source (image_of command) ∷ stub_sources (stubs_of command)
+
+-- ---- what is read
+
+-- the whole bytes of an input
+abbrev pub IsFrom : Option Contents → ℕ → Origin → List ℕ → Type 0
+IsFrom held limit (File name) bytes = IsWhole held name limit bytes
+IsFrom held limit (Made made) bytes = bytes ≡ made
+
+-- they are what they are to be
+abbrev pub IsAccepted : Kind → List ℕ → Type 0
+IsAccepted ImageFile bytes = (laid_out : LaidOut) × (load_of bytes ≡ Ok laid_out)
+IsAccepted StubFile bytes = (stubs : StatedStubs) × States bytes stubs
+
+-- an input is read whole and accepted
+abbrev pub IsFine : Option Contents → Source → Type 0
+IsFine held s = (bytes : List ℕ) × IsFrom held (limit_of s.input) s.origin bytes × IsAccepted s.kind bytes
+
+-- ---- why an input is refused
+
+-- the count of faults for a file rose
+abbrev pub IsUnread : Reading → Origin → Type 0
+IsUnread r (File name) = Rose (r.faults_before name) (r.faults_after name)
+IsUnread r (Made made) = ⊥
+
+-- what is held under the name is longer than the limit
+abbrev pub IsTooLong : Option Contents → ℕ → Origin → Type 0
+IsTooLong held limit (File name) = WhereHeld held name (λ there. IsSomeAnd there (λ content. limit < length content))
+IsTooLong held limit (Made made) = ⊥
+
+-- the number of a fault of a stub file
+abbrev pub stub_number : StubFault → Option ℕ
+stub_number stub_faults.NotToml = Some 1
+stub_number stub_faults.UnknownKey = Some 2
+stub_number stub_faults.WrongKind = Some 3
+stub_number stub_faults.OutOfRange = Some 4
+stub_number stub_faults.Both = Some 5
+stub_number stub_faults.Memory = None
+
+-- bytes are refused for their first fault, which a status tells
+abbrev pub IsFaulty : Kind → List ℕ → Status → Type 0
+IsFaulty ImageFile bytes status = IsSomeAnd (first_fault bytes) (λ n. status ≡ ImageRefused n)
+IsFaulty StubFile bytes status = (fault : StubFault) × Refuses bytes fault × IsSomeAnd (stub_number fault) (λ n. status ≡ StubsRefused n)
+
+-- an input is refused since it was not read, is too long, or is faulty
+abbrev pub IsRefusedAt : Reading → Source → Status → Type 0
+IsRefusedAt r s status =
+    ((status ≡ ReadFault s.input) × IsUnread r s.origin)
+    ⊎ ((status ≡ TooLong s.input) × IsTooLong r.held (limit_of s.input) s.origin)
+    ⊎ ((bytes : List ℕ) × IsFrom r.held (limit_of s.input) s.origin bytes × IsFaulty s.kind bytes status)
+
+-- inputs are refused at one of them, before which all are fine
+abbrev pub AreRefused : Reading → List Source → Status → Type 0
+AreRefused r [] status = ⊥
+AreRefused r (s ∷ rest) status = IsRefusedAt r s status ⊎ (IsFine r.held s × AreRefused r rest status)
+
+-- ---- what is held
+
+-- what a shelf that tells holds of an input is within its limit and not faulty, and no read of it failed
+abbrev pub IsHeldFrom : Reading → Contents → ℕ → Kind → Origin → Type 0
+IsHeldFrom r contents limit kind (File name) =
+    (bytes : List ℕ) × (contents name ≡ Some bytes) × (length bytes ≤ limit) × (IsUnread r (File name) → ⊥) × ((status : Status) → IsFaulty kind bytes status → ⊥)
+IsHeldFrom r contents limit kind (Made made) = (status : Status) → IsFaulty kind made status → ⊥
+
+abbrev pub AreHeld : Reading → Contents → List Source → Type 0
+AreHeld r contents [] = ⊤
+AreHeld r contents (s ∷ rest) = IsHeldFrom r contents (limit_of s.input) s.kind s.origin × AreHeld r contents rest
