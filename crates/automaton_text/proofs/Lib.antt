@@ -1,2 +1,4 @@
-pub mod Spelled
+pub mod Ascending
 pub mod Orders
+pub mod Reading
+pub mod Spelled
