@@ -1,3 +1,5 @@
-pub mod Spelled
+pub mod Ascending
 pub mod Orders
 pub mod Firsts
+pub mod Reading
+pub mod Spelled

@@ -12,6 +12,10 @@ use Rattle.automaton_text.specs.declared.automaton.OpenMark.{OpenMark}
 abbrev pub mark_cmp : OpenMark → OpenMark → Ordering
 mark_cmp a b = ordering_then (nat_cmp a.at b.at) (ordering_then (nat_cmp (cause_rank a.cause) (cause_rank b.cause)) (option_cmp nat_cmp a.row b.row))
 
+-- by the location, then by the table of causes
+abbrev pub opening_cmp : OpenMark → OpenMark → Ordering
+opening_cmp a b = ordering_then (nat_cmp a.at b.at) (nat_cmp (cause_rank a.cause) (cause_rank b.cause))
+
 -- whether two marks open one location for one cause
 abbrev pub is_same_opening : OpenMark → OpenMark → Bool
 is_same_opening a b = a.at == b.at && cause_rank a.cause == cause_rank b.cause

@@ -1,11 +1,20 @@
 // The control-flow automaton and its text.
 // It stands on flow_log, memory_map, text_fields and x86_decoder.
-// Its contract: `print_automaton` gives exactly the text that `specs/Text.antt` defines.
+// Its contract: `print_automaton` gives exactly the text that `specs/Text.antt` defines, and `read_automaton` reads it by `specs/Reading.antt`.
 #![tactic(auto)]
 
 mod automaton;
+mod causes;
+mod code_text;
+mod line_fields;
+mod places;
 mod print;
+mod reader;
+mod stage;
+#[cfg(test)]
+mod tests;
 mod versions;
 
 pub use automaton::{Automaton, Location, OpenMark, first_marks, sorted_marks};
 pub use print::print_automaton;
+pub use reader::read_automaton;

@@ -2,6 +2,7 @@ ghost use Rattle.std.specs.Prelude.{◌≡◌, ◌≤◌, ◌++◌, length, true
 ghost use Rattle.automaton_text.specs.Text.{AreSpelled, HaveRowsBy, IsSpelled, cause_text, code_text, edge_line, end_line, entry_line, header_line, is_version, label_text, loc_line, open_line, row_suffix, suffix_of, text_of};
 ghost use Rattle.x86_decoder.specs.Refusals.{IsSpelling};
 
+use crate::causes::cause_text;
 use crate::{Automaton, Location, OpenMark};
 use bit_words::NoMemory;
 use flow_log::{Cause, Edge, Label};
@@ -131,16 +132,7 @@ fn push_edges(out: &mut Vec<u8>, edges: &[Edge]) -> Result<(), NoMemory>
 fn push_cause(out: &mut Vec<u8>, cause: Cause) -> Result<(), NoMemory>
     ensures { OnOk result (out.new.items ≡ out.old.items ++ cause_text cause) }
 {
-    match cause {
-        Cause::Bytes => push_bytes(out, b"bytes"),
-        Cause::NoStub => push_bytes(out, b"nostub"),
-        Cause::Target => push_bytes(out, b"target"),
-        Cause::Store => push_bytes(out, b"store"),
-        Cause::Stack => push_bytes(out, b"stack"),
-        Cause::Block => push_bytes(out, b"block"),
-        Cause::Code => push_bytes(out, b"code"),
-        Cause::Budget => push_bytes(out, b"budget"),
-    }
+    push_bytes(out, cause_text(cause))
 }
 
 #[tactic(auto, using(std::proofs::Common::append_assoc))]
