@@ -10,9 +10,13 @@ mod fact;
 mod fact_list;
 mod known;
 mod laws;
+mod leaf;
 mod parts;
+mod spots;
+mod stretch;
 
 pub use area::Area;
 pub use fact::{Counted, Dirty, Fact, Spot};
 pub use laws::{calls_are_right, spread_is_apart};
 pub use parts::Parts;
+pub use spots::Spots;
