@@ -1,4 +1,6 @@
 pub mod ListLaws
+pub mod Cuts
+pub mod PairLaws
 pub mod Orders
 pub mod Kept
 pub mod Bytes

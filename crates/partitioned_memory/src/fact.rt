@@ -37,8 +37,8 @@ pub struct Counted {
     pub many: bool,
 }
 
-/// An offset in an area.
-#[derive(Clone, Copy, Debug, PartialEq, Eq, Hash)]
+/// An offset in an area. Spots are ordered by area and then by offset.
+#[derive(Clone, Copy, Debug, PartialEq, Eq, PartialOrd, Ord, Hash)]
 pub struct Spot {
     pub area: Area,
     pub low: i64,
