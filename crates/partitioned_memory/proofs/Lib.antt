@@ -9,3 +9,7 @@ pub mod CallsKept
 pub mod BlockKept
 pub mod Spread
 pub mod Holding
+pub mod FactSpots
+pub mod AreaSpots
+pub mod PutSpots
+pub mod DirtySpots
