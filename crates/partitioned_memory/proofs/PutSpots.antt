@@ -28,7 +28,7 @@ use Rattle.partitioned_memory.proofs.FactSpots.{map-filter, ok-mapped}
 
 -- ---- tests that one element passes at most
 
-abbrev Once : {X : Type 0} → (X → Bool) → List X → Type 0
+abbrev pub Once : {X : Type 0} → (X → Bool) → List X → Type 0
 Once s [] = Unit {0}
 Once s (x ∷ xs) = (s x ≡ true → Every (λ y. s y ≡ false) xs) × Once s xs
 
@@ -36,7 +36,7 @@ find-not : {X : Type 0} (s u : X → Bool) (xs : List X) → Every (λ x. s x �
 find-not s u [] h = refl
 find-not s u (x ∷ xs) h = ap (λ b. cond (b && u x) (Some x) (find (λ y. s y && u y) xs)) h.0 ∙ find-not s u xs h.1
 
-find-once : {X : Type 0} (s u : X → Bool) (xs : List X) → Once s xs → find (λ x. s x && u x) xs ≡ unless (λ x. not (u x)) (find s xs)
+pub find-once : {X : Type 0} (s u : X → Bool) (xs : List X) → Once s xs → find (λ x. s x && u x) xs ≡ unless (λ x. not (u x)) (find s xs)
 find-once s u [] h = refl
 find-once s u (x ∷ xs) h =
     elim (s x) as (λ b. s x ≡ b → cond (b && u x) (Some x) (find (λ y. s y && u y) xs) ≡ unless (λ y. not (u y)) (cond b (Some x) (find s xs))) [
@@ -52,12 +52,12 @@ any-found : {X : Type 0} (t : X → Bool) (xs : List X) → list_any t xs ≡ is
 any-found t [] = refl
 any-found t (x ∷ xs) = elim (t x) as (λ b. (b || list_any t xs) ≡ is_some (cond b (Some x) (find t xs))) [ true ↦ refl | false ↦ any-found t xs ]
 
-find-map : {X Y : Type 0} (f : X → Y) (t : Y → Bool) (xs : List X) → find t (map f xs) ≡ option_map f (find (λ x. t (f x)) xs)
+pub find-map : {X Y : Type 0} (f : X → Y) (t : Y → Bool) (xs : List X) → find t (map f xs) ≡ option_map f (find (λ x. t (f x)) xs)
 find-map f t [] = refl
 find-map f t (x ∷ xs) =
     elim (t (f x)) as (λ b. cond b (Some (f x)) (find t (map f xs)) ≡ option_map f (cond b (Some x) (find (λ y. t (f y)) xs))) [ true ↦ refl | false ↦ find-map f t xs ]
 
-find-same : {X : Type 0} (p q : X → Bool) → ((x : X) → p x ≡ q x) → (xs : List X) → find p xs ≡ find q xs
+pub find-same : {X : Type 0} (p q : X → Bool) → ((x : X) → p x ≡ q x) → (xs : List X) → find p xs ≡ find q xs
 find-same p q h [] = refl
 find-same p q h (x ∷ xs) = ap (λ b. cond b (Some x) (find p xs)) (h x) ∙ ap (λ r. cond (q x) (Some x) r) (find-same p q h xs)
 

@@ -3,6 +3,7 @@ pub mod Lists
 pub mod Pairs
 pub mod Leaves
 pub mod Held
+pub mod KnownBytes
 pub mod Well
 pub mod Describes
 pub mod Sound

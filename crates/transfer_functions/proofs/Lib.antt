@@ -22,3 +22,4 @@ pub mod SoundOperations
 pub mod KeepingOperations
 pub mod Soundness
 pub mod BlockPlaces
+pub mod Fetching

@@ -6,6 +6,7 @@
 mod after;
 mod arithmetic;
 mod bits;
+mod code;
 mod expand;
 mod flags;
 mod flow;
@@ -20,5 +21,6 @@ mod strings;
 mod tests;
 mod values;
 
+pub use code::{KnownCode, known_code};
 pub use expand::expand_instr;
-pub use sound::{instructions_are_sound, instructions_keep_well};
+pub use sound::{instructions_are_sound, instructions_keep_well, known_code_is_fetched};
