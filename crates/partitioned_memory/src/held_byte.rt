@@ -37,11 +37,10 @@ fn distance(low: i128, o: i64) -> u32
 }
 
 impl<D: Domain> Fact<D> {
-    // Whether it has a byte of the image, and is of a number.
-    fn is_number_at(&self, o: i64) -> bool
-        ensures { result ≡ is_number_at (values_of D.Domain.own D.eq) o self.now }
+    fn is_number(&self) -> bool
+        ensures { result ≡ is_some (D.number_of self.now.value) }
     {
-        self.interval().has(Area::Image, o) && self.value.number_of().is_some()
+        self.value.number_of().is_some()
     }
 
     // Its byte at an offset, where it is of a number.
@@ -62,9 +61,9 @@ impl<D: Domain> Fact<D> {
 fn if_number<D: Domain>(pair: Option<(Spot, Held<D>)>) -> Option<Fact<D>>
     ensures { result ≡ option_map fact_at (unless (λ p. not (is_some (D.number_of p.1.value))) pair) }
 {
-    let pair = pair?;
-    if pair.1.value.number_of().is_some() {
-        Some(Fact::at(&pair))
+    let f = Fact::at(&pair?);
+    if f.is_number() {
+        Some(f)
     } else {
         None
     }
