@@ -1,5 +1,5 @@
 -- Facts by area: what is left where those of a region go, or those of the stack below an offset.
-use Rattle.std.proofs.Common.{◌≡◌, Bool, true, false, cond, List, [], ◌∷◌, ◌++◌, map, filter, Option, Some, None, Result, refl, sym, ap, ◌∙◌, subst, arith, ℤ, ◌≤ℤ◌, ◌<ℤ◌, inl, inr}
+use Rattle.std.proofs.Common.{◌≡◌, Bool, true, false, List, map, filter, None, Result, refl, sym, ap, ◌∙◌, subst, arith, ℤ, ◌<ℤ◌, inl, inr}
 use Rattle.std.specs.Prelude.{IfOk, ◌||◌, ◌&&◌, ◌⊎◌, not, int_lt}
 use Rattle.std.specs.Ordering.{is_lt, is_eq, ordering_reverse}
 use Rattle.std.specs.declared.cmp.Ordering.{Ordering}
@@ -15,12 +15,12 @@ use Rattle.partitioned_memory.specs.declared.fact.Spot.{Spot}
 use Rattle.partitioned_memory.specs.declared.fact.Held.{Held}
 use Rattle.partitioned_memory.specs.declared.fact.Fact.{Fact}
 use Rattle.partitioned_memory.specs.Areas.{area_cmp, same_area}
-use Rattle.partitioned_memory.specs.Lists.{Ascends, Falls, around}
+use Rattle.partitioned_memory.specs.Lists.{Ascends, around}
 use Rattle.partitioned_memory.specs.Pairs.{IsParted, pair_before}
 use Rattle.partitioned_memory.specs.Held.{fact_at, fact_before, facts_outside, interval_of_fact, is_after_below, is_stack_below}
 use Rattle.partitioned_memory.proofs.ListLaws.{Ascends-filter}
 use Rattle.partitioned_memory.proofs.Cuts.{Falls-ascending, around-none}
-use Rattle.partitioned_memory.proofs.Orders.{Lies, area_total, area_cmp-equal, area_cmp-refl, before-lies, int_lt-from, int_lt-true, same_area-by_cmp, same_area-is}
+use Rattle.partitioned_memory.proofs.Orders.{Lies, area_total, before-lies, int_lt-from, int_lt-true, same_area-by_cmp, same_area-is}
 use Rattle.partitioned_memory.proofs.FactSpots.{Ascends-facts, Falls-through, fact-filled, map-around, ok-mapped}
 use Rattle.partitioned_memory.proofs.PairLaws.{from-not}
 

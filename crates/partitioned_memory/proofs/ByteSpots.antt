@@ -1,5 +1,5 @@
 -- The fact that has a byte of the image, by spots.
-use Rattle.std.proofs.Common.{◌≡◌, Bool, true, false, cond, List, [], ◌∷◌, map, Option, Some, None, refl, sym, ap, ◌∙◌, subst, arith, ℤ, pos, ◌+ℤ◌, ◌≤ℤ◌, ◌<ℤ◌}
+use Rattle.std.proofs.Common.{◌≡◌, Bool, true, false, List, [], ◌∷◌, map, refl, sym, ap, ◌∙◌, subst, arith, ℤ, pos, ◌+ℤ◌, ◌≤ℤ◌, ◌<ℤ◌}
 use Rattle.std.specs.Prelude.{◌&&◌, not, find, int_le, int_lt, is_some}
 use Rattle.std.specs.Option.{option_map}
 use Rattle.std.specs.Ordering.{is_eq, ordering_reverse}
@@ -13,10 +13,9 @@ use Rattle.partitioned_memory.specs.declared.area.Area.TheVariants.{Image}
 use Rattle.partitioned_memory.specs.declared.area.Interval.{Interval}
 use Rattle.partitioned_memory.specs.declared.fact.Spot.{Spot}
 use Rattle.partitioned_memory.specs.declared.fact.Held.{Held}
-use Rattle.partitioned_memory.specs.declared.fact.Fact.{Fact}
-use Rattle.partitioned_memory.specs.Areas.{area_cmp, by_area, has_byte, interval_at, is_before, same_area}
+use Rattle.partitioned_memory.specs.Areas.{area_cmp, by_area, has_byte, interval_at, is_before}
 use Rattle.partitioned_memory.specs.Leaves.{unless}
-use Rattle.partitioned_memory.specs.Lists.{Ascends, Every}
+use Rattle.partitioned_memory.specs.Lists.{Ascends}
 use Rattle.partitioned_memory.specs.Pairs.{IsParted, first_in}
 use Rattle.partitioned_memory.specs.Held.{fact_at, fact_before, interval_of_fact}
 use Rattle.partitioned_memory.specs.KnownBytes.{is_number_at}
@@ -75,10 +74,11 @@ meets-byte i o =
 -- no later fact has the same byte
 once-byte : {D : Type 0} (o : ℤ) (pairs : List (Spot × Held D)) → Ascends fact_before (map fact_at pairs) → Once (λ p. has_byte (interval_of_fact (fact_at p)) Image o) pairs
 once-byte o [] h = tt
-once-byte {D} o (p ∷ pairs) h =
-    (λ e. Every-unmap (fact_at {D = D}) (λ f. has_byte (interval_of_fact f) Image o ≡ false) pairs (Every-weaker (λ f. fact_before (fact_at p) f ≡ true) (λ f. has_byte (interval_of_fact f) Image o ≡ false) (map fact_at pairs) (λ f k.
-        false_from_ne_true (has_byte (interval_of_fact f) Image o) (λ q. off-no_byte (interval_of_fact (fact_at p)) (interval_of_fact f) Image o (or_left (is_before (interval_of_fact (fact_at p)) (interval_of_fact f)) (is_before (interval_of_fact f) (interval_of_fact (fact_at p))) k) e q)) h.0),
-    once-byte o pairs h.1)
+once-byte {D} o (p ∷ pairs) h = (
+  λ e. Every-unmap (fact_at {D = D}) (λ f. has_byte (interval_of_fact f) Image o ≡ false) pairs (Every-weaker (λ f. fact_before (fact_at p) f ≡ true) (λ f. has_byte (interval_of_fact f) Image o ≡ false) (map fact_at pairs) (λ f k.
+      false_from_ne_true (has_byte (interval_of_fact f) Image o) (λ q. off-no_byte (interval_of_fact (fact_at p)) (interval_of_fact f) Image o (or_left (is_before (interval_of_fact (fact_at p)) (interval_of_fact f)) (is_before (interval_of_fact f) (interval_of_fact (fact_at p))) k) e q)) h.0),
+  once-byte o pairs h.1,
+)
 
 pub parted-byte : {D : Type 0} (i : Interval) (o : ℤ) (pairs : List (Spot × Held D)) → i ≡ interval_at Image o (pos 1) → Ascends fact_before (map fact_at pairs) → IsParted (λ p. is_before (interval_of_fact (fact_at p)) i) (λ p. is_before i (interval_of_fact (fact_at p))) pairs
 parted-byte i o pairs e h = parted-facts i pairs (subst (λ (z : Interval). z.low ≤ℤ z.end) (sym e) (omega (arith, ints))) h

@@ -1,9 +1,9 @@
 -- Laws of lists that are cut where a test begins to fail, and of lists that lie in leaves.
 use Rattle.std.proofs.Common.{◌≡◌, ℕ, suc, zero, ◌+◌, ◌<◌, ◌≤◌, Bool, true, false, cond, List, [], ◌∷◌, ◌++◌, length, get_or, map, filter, take, drop, Option, Some, None, refl, sym, ap, ◌∙◌, subst, arith, add-one, append_assoc}
 use Rattle.std.specs.Prelude.{◌-◌, ◌==◌, slice_get, not, ◌||◌, ◌&&◌, find, option_to_list}
-use Rattle.std.specs.List.{flat_map, AllWithin, list_all, list_any}
+use Rattle.std.specs.List.{AllWithin, list_all, list_any}
 use Rattle.std.specs.Option.{option_map}
-use Rattle.std.specs.List.Sorted.{IsPartitionedBy, IsPartitionPoint}
+use Rattle.std.specs.List.Sorted.{IsPartitionedBy}
 use Rattle.std.proofs.lemmas.Bool.{false≢true}
 use Rattle.std.proofs.lemmas.List.{append-nil, drop-drop, drop-take, drop_more, length-take-le, map-append, nil_from_length, take-append-drop, take_rest}
 use Rattle.std.proofs.lemmas.List.Elements.{filter-append, filter_agree}
@@ -119,7 +119,6 @@ pub last-read : {X : Type 0} (t : X → Bool) (xs : List X) (x : X) → Some x �
 last-read t [] x e = absurd (cc)
 last-read t (y ∷ []) x e = let same : x ≡ y = cc in ap t same
 last-read t (y ∷ z ∷ zs) x e = last-read t (z ∷ zs) x (e ∙ ap (slice_get (y ∷ z ∷ zs)) (last-place (length zs)))
-
 
 last-none : {X : Type 0} (t : X → Bool) (xs : List X) → Every (λ x. t x ≡ false) xs → last_passes t xs ≡ false
 last-none t [] h = refl

@@ -1,24 +1,20 @@
 -- Dirty ranges by spots: what is found at an offset, and what a write leaves.
-use Rattle.std.proofs.Common.{◌≡◌, Bool, true, false, cond, List, [], ◌∷◌, ◌++◌, map, filter, Option, Some, None, Result, refl, sym, ap, ◌∙◌, subst, arith, ℤ, pos, ◌+ℤ◌, ◌≤ℤ◌, ◌<ℤ◌, inl, inr}
-use Rattle.std.specs.Prelude.{IfOk, ◌||◌, ◌&&◌, ◌⊎◌, not, find, fold, int_le, int_lt, is_some}
-use Rattle.std.specs.List.{list_any}
-use Rattle.std.specs.Option.{option_map}
+use Rattle.std.proofs.Common.{◌≡◌, Bool, true, false, cond, List, [], ◌∷◌, ◌++◌, map, filter, Some, Result, refl, sym, ap, ◌∙◌, subst, arith, ℤ, ◌≤ℤ◌, inl, inr}
+use Rattle.std.specs.Prelude.{IfOk, ◌&&◌, not}
 use Rattle.std.specs.Ordering.{ordering_reverse}
-use Rattle.std.specs.declared.cmp.Ordering.{Ordering}
 use Rattle.std.specs.declared.cmp.Ordering.TheVariants.{Less, Equal, Greater}
 use Rattle.std.proofs.lemmas.Bool.{false≢true}
 use Rattle.std.proofs.lemmas.Int.{ints, int_max_is, int_min_is}
-use Rattle.partitioned_memory.specs.declared.area.Area.{Area}
 use Rattle.partitioned_memory.specs.declared.area.Interval.{Interval}
 use Rattle.partitioned_memory.specs.declared.fact.Spot.{Spot}
 use Rattle.partitioned_memory.specs.declared.fact.Dirty.{Dirty}
-use Rattle.partitioned_memory.specs.Areas.{IsBounded, area_cmp, by_area, has_byte, hull, interval_at, is_before, is_left, same_area}
+use Rattle.partitioned_memory.specs.Areas.{IsBounded, area_cmp, hull, is_left}
 use Rattle.partitioned_memory.specs.Lists.{Every, Ascends, Falls, around}
-use Rattle.partitioned_memory.specs.Pairs.{IsParted, first_in, pair_before}
-use Rattle.partitioned_memory.specs.Held.{dirty_at, dirty_before, dirty_of, dirty_with, hull_of, interval_of_dirty, is_dirty, pair_of_dirty}
+use Rattle.partitioned_memory.specs.Pairs.{IsParted, pair_before}
+use Rattle.partitioned_memory.specs.Held.{dirty_at, dirty_before, dirty_of, dirty_with, hull_of, interval_of_dirty, pair_of_dirty}
 use Rattle.partitioned_memory.proofs.ListLaws.{Every-both, Every-filter, Every-weaker}
 use Rattle.partitioned_memory.proofs.Cuts.{Every-unmap, filter-all, filter-none}
-use Rattle.partitioned_memory.proofs.Orders.{Lies, Touches, area_cmp-refl, area_total, is_left-trans, left-from, left-hull, left-lies, touching}
+use Rattle.partitioned_memory.proofs.Orders.{Lies, Touches, area_cmp-refl, area_total, is_left-trans, left-from, left-lies, touching}
 use Rattle.partitioned_memory.proofs.FactSpots.{less-spot, low-spot, map-around, map-filter, ok-mapped}
 use Rattle.partitioned_memory.proofs.Kept.{Ascends-dirty_with, Every-dirty_with}
 use Rattle.partitioned_memory.proofs.PairLaws.{from-not}
@@ -139,10 +135,10 @@ dirty-around i (r ∷ rs) o f h =
                 let t : Touches j i = touching j i e k in
                 let both : Every (λ s. IsRange s × (is_left j (interval_of_dirty s) ≡ true)) rs = Every-both IsRange (λ s. dirty_before r s ≡ true) (λ s. IsRange s × (is_left j (interval_of_dirty s) ≡ true)) rs (λ s p q. (p, q)) f.1 h.0 in
                 let same_left : Every (λ s. is_left (interval_of_dirty s) (hull i j) ≡ is_left (interval_of_dirty s) i) rs = Every-weaker (λ s. IsRange s × (is_left j (interval_of_dirty s) ≡ true)) (λ s. is_left (interval_of_dirty s) (hull i j) ≡ is_left (interval_of_dirty s) i) rs (λ s p.
-                    not-left-of-hull i j (interval_of_dirty s) o own p.0.ordered t p.1 ∙ sym (right-not-left i j (interval_of_dirty s) p.0.ordered e p.1)) both in
+                not-left-of-hull i j (interval_of_dirty s) o own p.0.ordered t p.1 ∙ sym (right-not-left i j (interval_of_dirty s) p.0.ordered e p.1)) both in
                 let same_right : Every (λ s. is_left (hull i j) (interval_of_dirty s) ≡ is_left i (interval_of_dirty s)) rs = Every-weaker (λ s. dirty_before r s ≡ true) (λ s. is_left (hull i j) (interval_of_dirty s) ≡ is_left i (interval_of_dirty s)) rs (λ s q. right-of-hull i j (interval_of_dirty s) t q) h.0 in
                 let same_touch : Every (λ s. touch (hull i j) s ≡ touch i s) rs = Every-both (λ s. is_left (interval_of_dirty s) (hull i j) ≡ is_left (interval_of_dirty s) i) (λ s. is_left (hull i j) (interval_of_dirty s) ≡ is_left i (interval_of_dirty s)) (λ s. touch (hull i j) s ≡ touch i s) rs (λ s p q.
-                    ap (λ b. not b && not (is_left (hull i j) (interval_of_dirty s))) p ∙ ap (λ b. not (is_left (interval_of_dirty s) i) && not b) q) same_left same_right in
+                ap (λ b. not b && not (is_left (hull i j) (interval_of_dirty s))) p ∙ ap (λ b. not (is_left (interval_of_dirty s) i) && not b) q) same_left same_right in
                 dirty-around (hull i j) rs (hull-ordered i j o own) f.1 h.1
                 ∙ ap (λ ys. ys ++ (dirty_of (hull_of (hull i j) (filter (touch (hull i j)) rs)) ∷ filter (λ s. is_left (hull i j) (interval_of_dirty s)) rs)) (filter-by (λ s. is_left (interval_of_dirty s) (hull i j)) (λ s. is_left (interval_of_dirty s) i) rs same_left)
                 ∙ ap (λ ys. F ++ (dirty_of (hull_of (hull i j) ys) ∷ filter (λ s. is_left (hull i j) (interval_of_dirty s)) rs)) (filter-by (touch (hull i j)) (touch i) rs same_touch)

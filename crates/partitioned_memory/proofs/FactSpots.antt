@@ -1,34 +1,30 @@
 -- Facts and dirty ranges by spots: what a list of pairs around a stretch holds.
 use Rattle.std.proofs.Common.{◌≡◌, Bool, true, false, cond, List, [], ◌∷◌, ◌++◌, map, filter, Option, Some, None, Result, Ok, Err, refl, sym, ap, ◌∙◌, subst, arith, ℤ, pos, ◌+ℤ◌, ◌≤ℤ◌, ◌<ℤ◌, inl, inr}
-use Rattle.std.specs.Prelude.{IfOk, ◌||◌, ◌&&◌, ◌==◌, not, int_lt, option_to_list}
+use Rattle.std.specs.Prelude.{IfOk, ◌||◌, ◌==◌, not, int_lt, option_to_list}
 use Rattle.std.specs.Option.{option_map}
-use Rattle.std.specs.Ordering.{int_cmp, is_lt, is_eq, ordering_reverse, ordering_then}
+use Rattle.std.specs.Ordering.{int_cmp, is_lt, ordering_reverse, ordering_then}
 use Rattle.std.specs.declared.cmp.Ordering.{Ordering}
 use Rattle.std.specs.declared.cmp.Ordering.TheVariants.{Less, Equal, Greater}
 use Rattle.std.proofs.lemmas.Bool.{false≢true}
 use Rattle.std.proofs.lemmas.Int.{ints}
 use Rattle.std.proofs.lemmas.List.{map-append}
-use Rattle.std.proofs.lemmas.List.Elements.{filter_agree}
 use Rattle.bit_words.specs.declared.width.Width.{Width}
 use Rattle.bit_words.specs.declared.width.Width.TheVariants.{B8, B16, B32}
 use Rattle.bit_words.specs.Width.{bytes_of}
-use Rattle.address_regions.specs.declared.region.Region.{Region}
 use Rattle.domain_laws.specs.Laws.{Values}
 use Rattle.partitioned_memory.specs.declared.area.Area.{Area}
-use Rattle.partitioned_memory.specs.declared.area.Area.TheVariants.{In}
 use Rattle.partitioned_memory.specs.declared.area.Interval.{Interval}
 use Rattle.partitioned_memory.specs.declared.fact.Spot.{Spot}
 use Rattle.partitioned_memory.specs.declared.fact.Held.{Held}
 use Rattle.partitioned_memory.specs.declared.fact.Fact.{Fact}
-use Rattle.partitioned_memory.specs.declared.fact.Dirty.{Dirty}
 use Rattle.partitioned_memory.specs.declared.fact.Counted.{Counted}
-use Rattle.partitioned_memory.specs.Areas.{area_cmp, by_area, interval_at, is_before, is_left, is_off, same_area}
-use Rattle.partitioned_memory.specs.Lists.{Every, Ascends, Falls, around, placed}
+use Rattle.partitioned_memory.specs.Areas.{area_cmp, by_area, is_before, is_off}
+use Rattle.partitioned_memory.specs.Lists.{Ascends, Falls, around, placed}
 use Rattle.partitioned_memory.specs.Pairs.{IsParted, pair_before, spot_before, spot_cmp}
 use Rattle.partitioned_memory.specs.Held.{fact_at, fact_before, facts_off, facts_with, interval_of_fact, is_many, pair_of_fact}
-use Rattle.partitioned_memory.proofs.ListLaws.{Every-kept, Every-map, Every-weaker, Ascends-filter, Ascends-placed}
+use Rattle.partitioned_memory.proofs.ListLaws.{Every-kept, Every-weaker, Ascends-filter, Ascends-placed}
 use Rattle.partitioned_memory.proofs.Cuts.{Every-unmap, Falls-ascending, around-none, placed-between}
-use Rattle.partitioned_memory.proofs.Orders.{Lies, area_cmp-equal, area_cmp-refl, area_total, before-lies, int_lt-from, is_before-trans}
+use Rattle.partitioned_memory.proofs.Orders.{Lies, area_cmp-refl, area_total, before-lies, int_lt-from, is_before-trans}
 use Rattle.partitioned_memory.proofs.Kept.{fact_before-trans}
 use Rattle.partitioned_memory.proofs.PairLaws.{from-not}
 

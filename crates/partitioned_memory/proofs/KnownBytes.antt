@@ -1,6 +1,6 @@
 -- Bytes of the image that are known: how they are looked up, and that they are memory's.
-use Rattle.std.proofs.Common.{◌≡◌, ℕ, ◌+◌, ◌*◌, ◌<◌, ◌^◌, zero, suc, Bool, true, false, cond, List, [], ◌∷◌, Option, Some, None, refl, sym, ap, ◌∙◌, subst, arith, ℤ, pos, ◌+ℤ◌, ◌-ℤ◌, ◌≤ℤ◌, ◌<ℤ◌, inl, inr}
-use Rattle.std.specs.Prelude.{◌/◌, ◌%◌, ◌&&◌, not, find, is_some, option_and_then, unsigned_abs}
+use Rattle.std.proofs.Common.{◌≡◌, ℕ, ◌<◌, ◌^◌, zero, suc, Bool, true, false, cond, List, [], ◌∷◌, Option, Some, None, refl, sym, ap, ◌∙◌, subst, arith, ℤ, pos, ◌+ℤ◌, ◌-ℤ◌, ◌≤ℤ◌, ◌<ℤ◌}
+use Rattle.std.specs.Prelude.{◌/◌, ◌%◌, find, is_some, option_and_then, unsigned_abs}
 use Rattle.std.specs.Option.{option_map, option_or}
 use Rattle.std.proofs.lemmas.Bool.{false≢true, and_parts}
 use Rattle.std.proofs.lemmas.Int.{ints}
@@ -13,7 +13,6 @@ use Rattle.address_regions.specs.Places.{Places, IsValid, place_at}
 use Rattle.address_regions.proofs.PlaceLaws.{place_at-is}
 use Rattle.domain_laws.specs.Laws.{IsLawful, Values}
 use Rattle.partitioned_memory.specs.declared.area.Area.TheVariants.{Image}
-use Rattle.partitioned_memory.specs.declared.area.Interval.{Interval}
 use Rattle.partitioned_memory.specs.declared.fact.Fact.{Fact}
 use Rattle.partitioned_memory.specs.Areas.{has_byte, interval_at}
 use Rattle.partitioned_memory.specs.Lists.{Every}

@@ -1,6 +1,6 @@
 -- Laws of the order of spots, and of lists of pairs in it.
-use Rattle.std.proofs.Common.{◌≡◌, ℤ, ◌<ℤ◌, Bool, true, false, cond, List, [], ◌∷◌, ◌++◌, filter, Option, Some, None, refl, sym, ap, ◌∙◌, subst}
-use Rattle.std.specs.Prelude.{not, ◌||◌, ◌&&◌, find, option_to_list}
+use Rattle.std.proofs.Common.{◌≡◌, ℤ, ◌<ℤ◌, Bool, true, false, cond, List, [], ◌∷◌, ◌++◌, filter, Some, None, refl, sym, ap, ◌∙◌, subst}
+use Rattle.std.specs.Prelude.{not, ◌||◌, ◌&&◌, find}
 use Rattle.std.specs.Option.{option_map}
 use Rattle.std.specs.Cmp.{IsTotalOrder}
 use Rattle.std.specs.Ordering.{MatchOrdering, int_cmp, int_eq, is_eq, is_lt, ordering_reverse}
@@ -13,7 +13,7 @@ use Rattle.partitioned_memory.specs.declared.area.Area.{Area}
 use Rattle.partitioned_memory.specs.declared.fact.Spot.{Spot}
 use Rattle.partitioned_memory.specs.Areas.{same_area}
 use Rattle.partitioned_memory.specs.contracts.fact.SpotOrd.TheImpl as order
-use Rattle.partitioned_memory.specs.Lists.{Every, Ascends, Falls, around, placed}
+use Rattle.partitioned_memory.specs.Lists.{Ascends, around, placed}
 use Rattle.partitioned_memory.specs.Pairs.{IsParted, first_in, pair_before, pairs_with, pairs_without, same_spot, spot_before, spot_cmp, value_at}
 use Rattle.partitioned_memory.proofs.ListLaws.{Every-weaker, Every-kept, Ascends-filter, Ascends-placed}
 use Rattle.partitioned_memory.proofs.Orders.{same_area-is}

@@ -3,11 +3,8 @@ use Rattle.std.proofs.Common.{◌≡◌, ℤ, Bool, true, false, cond, List, [],
 use Rattle.std.specs.Prelude.{◌||◌, ◌&&◌, ◌==◌, not, find, is_some, IfOk}
 use Rattle.std.specs.List.{list_any}
 use Rattle.std.specs.Option.{option_map}
-use Rattle.std.specs.Ordering.{int_eq, is_lt, is_eq}
-use Rattle.std.specs.declared.cmp.Ordering.{Ordering}
-use Rattle.std.specs.declared.cmp.Ordering.TheVariants.{Less, Equal, Greater}
+use Rattle.std.specs.Ordering.{int_eq}
 use Rattle.std.proofs.lemmas.Bool.{false≢true, and_parts, or_right}
-use Rattle.std.proofs.lemmas.List.Elements.{filter_agree}
 use Rattle.bit_words.specs.declared.width.Width.{Width}
 use Rattle.bit_words.specs.Width.{bytes_of}
 use Rattle.domain_laws.specs.Laws.{Values}
@@ -18,10 +15,10 @@ use Rattle.partitioned_memory.specs.declared.fact.Fact.{Fact}
 use Rattle.partitioned_memory.specs.Areas.{same_area}
 use Rattle.partitioned_memory.specs.Leaves.{unless}
 use Rattle.partitioned_memory.specs.Lists.{Every, Ascends, around}
-use Rattle.partitioned_memory.specs.Pairs.{pair_before, pairs_without, same_spot, spot_before, spot_cmp, value_at}
+use Rattle.partitioned_memory.specs.Pairs.{pair_before, same_spot, spot_before, value_at}
 use Rattle.partitioned_memory.specs.Held.{covers_fact, fact_at, fact_given, facts_put, found, is_at, is_below, pair_of_fact, value_below, value_of_width}
 use Rattle.partitioned_memory.proofs.ListLaws.{Every-weaker}
-use Rattle.partitioned_memory.proofs.PairLaws.{inserted-ascends, other-spot, parted-at, removed, removed-ascends, same_spot-is, same_spot-parts, spot_before-trans, spots-apart}
+use Rattle.partitioned_memory.proofs.PairLaws.{inserted-ascends, other-spot, removed, removed-ascends, same_spot-is, same_spot-parts, spot_before-trans, spots-apart}
 use Rattle.partitioned_memory.proofs.Cuts.{filter-all, filter-none}
 use Rattle.partitioned_memory.proofs.Kept.{same_width}
 use Rattle.partitioned_memory.proofs.FactSpots.{map-filter, ok-mapped}
@@ -124,7 +121,7 @@ covered-at {D} d f pairs h =
     ∙ ap is_some (find-map (fact_at {D = D}) (is_below d f) pairs)
     ∙ some-mapped (fact_at {D = D}) (find (λ p. is_below d f (fact_at p)) pairs)
     ∙ ap is_some (find-same (λ p. is_below d f (fact_at p)) (λ p. same_spot p.0 k && ((bytes_of p.1.w == bytes_of f.w) && d.leq p.1.value f.value)) (λ p.
-        ap (λ b. b && d.leq p.1.value f.value) (at-by-spot f.area f.low f.w p) ∙ sym (and-three (same_spot p.0 k) (bytes_of p.1.w == bytes_of f.w) (d.leq p.1.value f.value))) pairs)
+    ap (λ b. b && d.leq p.1.value f.value) (at-by-spot f.area f.low f.w p) ∙ sym (and-three (same_spot p.0 k) (bytes_of p.1.w == bytes_of f.w) (d.leq p.1.value f.value))) pairs)
     ∙ ap is_some (find-once (λ p. same_spot p.0 k) (λ p. (bytes_of p.1.w == bytes_of f.w) && d.leq p.1.value f.value) pairs (once-at k pairs h))
     ∙ below-by d f (find (λ p. same_spot p.0 k) pairs)
 

@@ -30,12 +30,7 @@ fn value_of_width<D: Domain>(held: Option<Held<D>>, w: Width) -> Option<D>
 }
 
 // The value of the fact of a spot and a width.
-pub(crate) fn found<D: Domain>(
-    facts: &Spots<Held<D>>,
-    area: Area,
-    low: i64,
-    w: Width,
-) -> Option<D>
+pub(crate) fn found<D: Domain>(facts: &Spots<Held<D>>, area: Area, low: i64, w: Width) -> Option<D>
     ensures { result ≡ found area low w (map fact_at facts.now) }
 {
     value_of_width(facts.get(&Spot::at(area, low)), w)
@@ -179,10 +174,7 @@ pub(crate) fn cover_facts<D: Domain>(facts: &Spots<Held<D>>, others: &Spots<Held
     cover_leaves(facts.leaves(), others)
 }
 
-fn push_facts<D: Domain>(
-    all: &mut Vec<Fact<D>>,
-    pairs: &[(Spot, Held<D>)],
-) -> Result<(), NoMemory>
+fn push_facts<D: Domain>(all: &mut Vec<Fact<D>>, pairs: &[(Spot, Held<D>)]) -> Result<(), NoMemory>
     ensures { IfOk result (λ _. all.new.items ≡ all.old.items ++ map fact_at pairs.now) }
 {
     for pair in pairs {

@@ -62,11 +62,7 @@ fn if_number<D: Domain>(pair: Option<(Spot, Held<D>)>) -> Option<Fact<D>>
     ensures { result ≡ option_map fact_at (unless (λ p. not (is_some (D.number_of p.1.value))) pair) }
 {
     let f = Fact::at(&pair?);
-    if f.is_number() {
-        Some(f)
-    } else {
-        None
-    }
+    if f.is_number() { Some(f) } else { None }
 }
 
 // The fact of a number that has a byte of the image.

@@ -46,11 +46,7 @@ impl<V: Copy> Leaf<V> {
 }
 
 // How many pairs lie before an edge of a stretch: they come first.
-fn place_of_pair<V: Copy, S: Stretch<V>>(
-    pairs: &[(Spot, V)],
-    stretch: &S,
-    edge: Edge,
-) -> usize
+fn place_of_pair<V: Copy, S: Stretch<V>>(pairs: &[(Spot, V)], stretch: &S, edge: Edge) -> usize
     requires { Falls (before_edge edge (S.before stretch.now) (S.after stretch.now)) pairs.now }
     ensures within { result ≤ length pairs.now }
     ensures front { Every (λ p. before_edge edge (S.before stretch.now) (S.after stretch.now) p ≡ true) (take result pairs.now) }
@@ -79,11 +75,7 @@ pub(crate) fn push_within<V: Copy, S: Stretch<V>>(
 }
 
 // How many leaves lie before it whole.
-fn place_of_leaf<V: Copy, S: Stretch<V>>(
-    leaves: &[Arc<Leaf<V>>],
-    stretch: &S,
-    edge: Edge,
-) -> usize
+fn place_of_leaf<V: Copy, S: Stretch<V>>(leaves: &[Arc<Leaf<V>>], stretch: &S, edge: Edge) -> usize
     requires { Falls (λ leaf. last_passes (before_edge edge (S.before stretch.now) (S.after stretch.now)) (pairs_in leaf)) leaves.now }
     ensures within { result ≤ length leaves.now }
     ensures front { Every (λ leaf. last_passes (before_edge edge (S.before stretch.now) (S.after stretch.now)) (pairs_in leaf) ≡ true) (take result leaves.now) }

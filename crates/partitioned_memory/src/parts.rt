@@ -14,7 +14,8 @@ use crate::count_list::{count_more, cover_counts};
 use crate::dirty_list::{dirty_after, hold_dirty};
 use crate::fact::{Counted, Dirty, Fact, Held};
 use crate::fact_list::{
-    cover_facts, facts_beside, facts_not_below, facts_of, facts_off, facts_put, facts_written, found,
+    cover_facts, facts_beside, facts_not_below, facts_of, facts_off, facts_put, facts_written,
+    found,
 };
 use crate::held_byte::byte_held;
 use crate::known::Known;

@@ -166,10 +166,7 @@ fn nth_pair<V: Copy>(leaves: &[Arc<Leaf<V>>], i: usize) -> Option<(Spot, V)>
 }
 
 // A pair, unless it lies after a stretch.
-fn unless_after<V: Copy, S: Stretch<V>>(
-    stretch: &S,
-    next: Option<(Spot, V)>,
-) -> Option<(Spot, V)>
+fn unless_after<V: Copy, S: Stretch<V>>(stretch: &S, next: Option<(Spot, V)>) -> Option<(Spot, V)>
     ensures { result ≡ unless (S.after stretch.now) next }
 {
     let pair = next?;
@@ -199,10 +196,7 @@ fn pairs_around<V: Copy>(
 }
 
 // The leaves of one pair, or of none.
-fn leaves_of<V: Copy>(
-    alloc: Global,
-    new: Option<(Spot, V)>,
-) -> Result<Vec<Arc<Leaf<V>>>, NoMemory>
+fn leaves_of<V: Copy>(alloc: Global, new: Option<(Spot, V)>) -> Result<Vec<Arc<Leaf<V>>>, NoMemory>
     ensures pairs { IfOk result (λ all. joined (pieces all.items) ≡ option_to_list new) }
     ensures leaves { IfOk result (λ all. Every IsLeaf (pieces all.items)) }
 {

@@ -1,4 +1,4 @@
-use Rattle.std.proofs.Common.{map, rules}
+use Rattle.std.proofs.Common.{map}
 use Rattle.partitioned_memory.specs.Held.{dirty_at, lies_in}
 use Rattle.partitioned_memory.specs.Leaves.{pairs_in}
 use Rattle.partitioned_memory.proofs.Cuts.{all-of-leaves}

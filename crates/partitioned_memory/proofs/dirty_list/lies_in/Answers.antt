@@ -1,4 +1,3 @@
-use Rattle.std.proofs.Common.{rules}
 use Rattle.partitioned_memory.specs.Held.{dirty_at, lies_in_one}
 use Rattle.partitioned_memory.specs.Leaves.{pairs_in}
 use Rattle.partitioned_memory.proofs.Cuts.{any-of-leaves}

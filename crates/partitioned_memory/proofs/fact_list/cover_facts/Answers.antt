@@ -1,6 +1,5 @@
 use Rattle.domain_laws.specs.Made.{values_of}
-use Rattle.std.proofs.Common.{◌≡◌, map, rules}
-use Rattle.std.specs.List.{list_all}
+use Rattle.std.proofs.Common.{map}
 use Rattle.partitioned_memory.specs.Held.{covers_fact, fact_at}
 use Rattle.partitioned_memory.specs.Leaves.{pairs_in}
 use Rattle.partitioned_memory.proofs.Cuts.{all-of-leaves}

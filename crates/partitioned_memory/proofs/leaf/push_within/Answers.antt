@@ -1,4 +1,4 @@
-use Rattle.std.proofs.Common.{◌≡◌, ◌++◌, ap, ◌∙◌, arith, filter, subst, sym}
+use Rattle.std.proofs.Common.{◌++◌, ap, ◌∙◌, arith, filter, subst, sym}
 use Rattle.std.specs.Prelude.{◌&&◌, not}
 use Rattle.std.proofs.lemmas.List.{append-nil}
 use Rattle.partitioned_memory.specs.Lists.{Falls}

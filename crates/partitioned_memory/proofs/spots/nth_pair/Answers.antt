@@ -1,4 +1,4 @@
-use Rattle.std.proofs.Common.{◌≡◌, ap, ◌∙◌, ◌<◌, ◌≤◌, arith, length, refl, subst}
+use Rattle.std.proofs.Common.{◌≡◌, ap, ◌∙◌, arith, length, refl}
 use Rattle.std.specs.Prelude.{slice_get}
 use Rattle.partitioned_memory.specs.Leaves.{pairs_in}
 use Rattle.partitioned_memory.proofs.Cuts.{nth-more, nth-there}

@@ -1,4 +1,4 @@
-use Rattle.std.proofs.Common.{◌≡◌, ap}
+use Rattle.std.proofs.Common.{ap}
 use Rattle.std.specs.Prelude.{◌&&◌, not}
 use Rattle.partitioned_memory.specs.Leaves.{pairs_in}
 use Rattle.partitioned_memory.proofs.Cuts.{falls-first, falls-rest, within-more}
