@@ -1,10 +1,11 @@
 -- Laws of lists that are cut where a test begins to fail, and of lists that lie in leaves.
 use Rattle.std.proofs.Common.{◌≡◌, ℕ, suc, zero, ◌+◌, ◌<◌, ◌≤◌, Bool, true, false, cond, List, [], ◌∷◌, ◌++◌, length, get_or, map, filter, take, drop, Option, Some, None, refl, sym, ap, ◌∙◌, subst, arith, add-one, append_assoc}
 use Rattle.std.specs.Prelude.{◌-◌, ◌==◌, slice_get, not, ◌||◌, ◌&&◌, find, option_to_list}
-use Rattle.std.specs.List.{flat_map, AllWithin}
-use Rattle.std.specs.List.Sorted.{IsPartitionedBy, IsPartitionPoint}
+use Rattle.std.specs.List.{AllWithin, list_all, list_any}
+use Rattle.std.specs.Option.{option_map}
+use Rattle.std.specs.List.Sorted.{IsPartitionedBy}
 use Rattle.std.proofs.lemmas.Bool.{false≢true}
-use Rattle.std.proofs.lemmas.List.{append-nil, length-take-le, map-append, nil_from_length, take-append-drop, take_rest}
+use Rattle.std.proofs.lemmas.List.{append-nil, drop-drop, drop-take, drop_more, length-take-le, map-append, nil_from_length, take-append-drop, take_rest}
 use Rattle.std.proofs.lemmas.List.Elements.{filter-append, filter_agree}
 use Rattle.partitioned_memory.specs.Lists.{Every, Ascends, Falls, around, placed}
 use Rattle.partitioned_memory.specs.Leaves.{IsLeaf, joined, last_passes, unless}
@@ -118,7 +119,6 @@ pub last-read : {X : Type 0} (t : X → Bool) (xs : List X) (x : X) → Some x �
 last-read t [] x e = absurd (cc)
 last-read t (y ∷ []) x e = let same : x ≡ y = cc in ap t same
 last-read t (y ∷ z ∷ zs) x e = last-read t (z ∷ zs) x (e ∙ ap (slice_get (y ∷ z ∷ zs)) (last-place (length zs)))
-
 
 last-none : {X : Type 0} (t : X → Bool) (xs : List X) → Every (λ x. t x ≡ false) xs → last_passes t xs ≡ false
 last-none t [] h = refl
@@ -352,3 +352,139 @@ first-found b a (x ∷ xs) h =
 pub head-right : {X : Type 0} (right more all : List X) → (right ≡ [] → more ≡ []) → right ++ more ≡ all → slice_get right 0 ≡ slice_get all 0
 head-right [] more all h e = ap (λ zs. slice_get zs 0) (sym (h refl) ∙ e)
 head-right (x ∷ right) more all h e = ap (λ zs. slice_get zs 0) e
+
+-- ---- the elements in a stretch
+
+drop-more : {X : Type 0} (s e : ℕ) (xs : List X) → s ≤ e → drop (e - s) (drop s xs) ≡ drop e xs
+drop-more s e xs l = drop-drop (e - s) s xs ∙ ap (λ n. drop n xs) (omega (arith, l))
+
+middle-filter : {X : Type 0} (b a : X → Bool) (xs : List X) → Every (λ x. b x ≡ false) xs → Every (λ x. not (a x) ≡ true) xs → filter (λ x. not (b x) && not (a x)) xs ≡ xs
+middle-filter b a [] h k = refl
+middle-filter b a (x ∷ xs) h k =
+    ap (λ s. cond (not s && not (a x)) (x ∷ filter (λ y. not (b y) && not (a y)) xs) (filter (λ y. not (b y) && not (a y)) xs)) h.0
+    ∙ ap (λ s. cond s (x ∷ filter (λ y. not (b y) && not (a y)) xs) (filter (λ y. not (b y) && not (a y)) xs)) k.0
+    ∙ ap (λ ys. x ∷ ys) (middle-filter b a xs h.1 k.1)
+
+before-filter : {X : Type 0} (b a : X → Bool) (xs : List X) → Every (λ x. b x ≡ true) xs → filter (λ x. not (b x) && not (a x)) xs ≡ []
+before-filter b a [] h = refl
+before-filter b a (x ∷ xs) h =
+    ap (λ s. cond (not s && not (a x)) (x ∷ filter (λ y. not (b y) && not (a y)) xs) (filter (λ y. not (b y) && not (a y)) xs)) h.0 ∙ before-filter b a xs h.1
+
+and-none : (s t : Bool) → t ≡ false → (s && t) ≡ false
+and-none true t e = e
+and-none false t e = refl
+
+after-filter : {X : Type 0} (b a : X → Bool) (xs : List X) → Every (λ x. not (a x) ≡ false) xs → filter (λ x. not (b x) && not (a x)) xs ≡ []
+after-filter b a xs h = filter-none (λ x. not (b x) && not (a x)) xs (Every-weaker (λ x. not (a x) ≡ false) (λ x. (not (b x) && not (a x)) ≡ false) xs (λ x e. and-none (not (b x)) (not (a x)) e) h)
+
+rest-filter : {X : Type 0} (b a : X → Bool) (xs : List X) (s : ℕ) → Every (λ x. b x ≡ true) (take s xs) → filter (λ x. not (b x) && not (a x)) xs ≡ filter (λ x. not (b x) && not (a x)) (drop s xs)
+rest-filter b a xs s h =
+    ap (filter (λ x. not (b x) && not (a x))) (sym (take-append-drop s xs))
+    ∙ filter-append (λ x. not (b x) && not (a x)) (take s xs) (drop s xs)
+    ∙ ap (λ ys. ys ++ filter (λ x. not (b x) && not (a x)) (drop s xs)) (before-filter b a (take s xs) h)
+
+-- those from where the stretch begins to where it ends
+pub middle-is : {X : Type 0} (b a : X → Bool) (xs : List X) (s e : ℕ) → s ≤ e → Every (λ x. b x ≡ true) (take s xs) → Every (λ x. b x ≡ false) (drop s xs) → Every (λ x. not (a x) ≡ true) (take e xs) → Every (λ x. not (a x) ≡ false) (drop e xs) → take (e - s) (drop s xs) ≡ filter (λ x. not (b x) && not (a x)) xs
+middle-is {X} b a xs s e l h k p q =
+    let inner : take (e - s) (drop s xs) ≡ drop s (take e xs) = sym (ap (λ n. drop s (take n xs)) (omega (arith, l)) ∙ drop-take s (e - s) xs) in
+    let whole : filter (λ x. not (b x) && not (a x)) (drop s xs) ≡ take (e - s) (drop s xs) =
+    ap (filter (λ x. not (b x) && not (a x))) (sym (take-append-drop (e - s) (drop s xs)))
+    ∙ filter-append (λ x. not (b x) && not (a x)) (take (e - s) (drop s xs)) (drop (e - s) (drop s xs))
+    ∙ ap (λ ys. filter (λ x. not (b x) && not (a x)) (take (e - s) (drop s xs)) ++ ys) (after-filter b a (drop (e - s) (drop s xs)) (subst (Every (λ x. not (a x) ≡ false)) (sym (drop-more s e xs l)) q))
+    ∙ append-nil (filter (λ x. not (b x) && not (a x)) (take (e - s) (drop s xs)))
+    ∙ middle-filter b a (take (e - s) (drop s xs)) (Every-take (λ x. b x ≡ false) (e - s) (drop s xs) k) (subst (Every (λ x. not (a x) ≡ true)) (sym inner) (Every-drop (λ x. not (a x) ≡ true) s (take e xs) p)) in
+    sym (rest-filter b a xs s h ∙ whole)
+
+pub middle-none : {X : Type 0} (b a : X → Bool) (xs : List X) (s e : ℕ) → e ≤ s → Every (λ x. b x ≡ true) (take s xs) → Every (λ x. not (a x) ≡ false) (drop e xs) → filter (λ x. not (b x) && not (a x)) xs ≡ []
+middle-none b a xs s e l h q =
+    rest-filter b a xs s h
+    ∙ after-filter b a (drop s xs) (subst (Every (λ x. not (a x) ≡ false)) (drop-more e s xs l) (Every-drop (λ x. not (a x) ≡ false) (s - e) (drop e xs) q))
+
+-- ---- tests of all pairs, leaf by leaf
+
+list_any-append : {X : Type 0} (t : X → Bool) (xs ys : List X) → list_any t (xs ++ ys) ≡ (list_any t xs || list_any t ys)
+list_any-append t [] ys = refl
+list_any-append t (x ∷ xs) ys = elim (t x) as (λ b. (b || list_any t (xs ++ ys)) ≡ ((b || list_any t xs) || list_any t ys)) [ true ↦ refl | false ↦ list_any-append t xs ys ]
+
+list_all-append : {X : Type 0} (t : X → Bool) (xs ys : List X) → list_all t (xs ++ ys) ≡ (list_all t xs && list_all t ys)
+list_all-append t [] ys = refl
+list_all-append t (x ∷ xs) ys = elim (t x) as (λ b. (b && list_all t (xs ++ ys)) ≡ ((b && list_all t xs) && list_all t ys)) [ true ↦ list_all-append t xs ys | false ↦ refl ]
+
+any-map : {X Y : Type 0} (f : X → Y) (t : Y → Bool) (xs : List X) → list_any t (map f xs) ≡ list_any (λ x. t (f x)) xs
+any-map f t [] = refl
+any-map f t (x ∷ xs) = ap (λ b. t (f x) || b) (any-map f t xs)
+
+all-map : {X Y : Type 0} (f : X → Y) (t : Y → Bool) (xs : List X) → list_all t (map f xs) ≡ list_all (λ x. t (f x)) xs
+all-map f t [] = refl
+all-map f t (x ∷ xs) = ap (λ b. t (f x) && b) (all-map f t xs)
+
+any-joined : {A X Y : Type 0} (g : A → List X) (f : X → Y) (t : Y → Bool) (ls : List A) → list_any (λ a. list_any (λ x. t (f x)) (g a)) ls ≡ list_any t (map f (joined (map g ls)))
+any-joined g f t [] = refl
+any-joined g f t (a ∷ ls) =
+    ap (λ b. b || list_any (λ l. list_any (λ x. t (f x)) (g l)) ls) (sym (any-map f t (g a)))
+    ∙ ap (λ b. list_any t (map f (g a)) || b) (any-joined g f t ls)
+    ∙ sym (ap (list_any t) (map-append f (g a) (joined (map g ls))) ∙ list_any-append t (map f (g a)) (map f (joined (map g ls))))
+
+all-joined : {A X Y : Type 0} (g : A → List X) (f : X → Y) (t : Y → Bool) (ls : List A) → list_all (λ a. list_all (λ x. t (f x)) (g a)) ls ≡ list_all t (map f (joined (map g ls)))
+all-joined g f t [] = refl
+all-joined g f t (a ∷ ls) =
+    ap (λ b. b && list_all (λ l. list_all (λ x. t (f x)) (g l)) ls) (sym (all-map f t (g a)))
+    ∙ ap (λ b. list_all t (map f (g a)) && b) (all-joined g f t ls)
+    ∙ sym (ap (list_all t) (map-append f (g a) (joined (map g ls))) ∙ list_all-append t (map f (g a)) (map f (joined (map g ls))))
+
+-- what a walk over the leaves tells of all pairs
+pub any-of-leaves : {A X Y : Type 0} (g : A → List X) (f : X → Y) (t : Y → Bool) (ls : List A) (xs : List X) (r : Bool) → r ≡ list_any (λ a. list_any (λ x. t (f x)) (g a)) ls → joined (map g ls) ≡ xs → r ≡ list_any t (map f xs)
+any-of-leaves g f t ls xs r e s = e ∙ any-joined g f t ls ∙ ap (λ ys. list_any t (map f ys)) s
+
+pub all-of-leaves : {A X Y : Type 0} (g : A → List X) (f : X → Y) (t : Y → Bool) (ls : List A) (xs : List X) (r : Bool) → r ≡ list_all (λ a. list_all (λ x. t (f x)) (g a)) ls → joined (map g ls) ≡ xs → r ≡ list_all t (map f xs)
+all-of-leaves g f t ls xs r e s = e ∙ all-joined g f t ls ∙ ap (λ ys. list_all t (map f ys)) s
+
+-- ---- elements by their places
+
+pub get-left : {X : Type 0} (xs ys : List X) (i : ℕ) → i < length xs → slice_get (xs ++ ys) i ≡ slice_get xs i
+get-left [] ys i l = absurd (omega (arith, l))
+get-left (x ∷ xs) ys zero l = refl
+get-left (x ∷ xs) ys (suc i) l = get-left xs ys i (omega (arith, l))
+
+pub get-right : {X : Type 0} (xs ys : List X) (i n : ℕ) → n + length xs ≡ i → slice_get (xs ++ ys) i ≡ slice_get ys n
+get-right [] ys i n e = ap (slice_get ys) (omega (arith, e))
+get-right (x ∷ xs) ys zero n e = absurd (omega (arith, e))
+get-right (x ∷ xs) ys (suc i) n e = get-right xs ys i n (omega (arith, e))
+
+pub get-map : {X Y : Type 0} (f : X → Y) (xs : List X) (i : ℕ) → option_map f (slice_get xs i) ≡ slice_get (map f xs) i
+get-map f [] i = refl
+get-map f (x ∷ xs) zero = refl
+get-map f (x ∷ xs) (suc i) = get-map f xs i
+
+-- ---- a walk over leaves
+
+pub leaf-next : {A X : Type 0} (g : A → List X) (ls : List A) (i : ℕ) (a : A) → i < length ls → a ≡ get_or ls i a → joined (map g (drop i ls)) ≡ g a ++ joined (map g (drop (i + 1) ls))
+leaf-next g ls i a l e = ap (λ zs. joined (map g zs)) (drop_more ls i a l) ∙ ap (λ z. g z ++ joined (map g (drop (i + 1) ls))) (sym e)
+
+-- what is in the stretch, one leaf more
+pub within-more : {A X : Type 0} (g : A → List X) (t : X → Bool) (ls : List A) (i : ℕ) (a : A) (out new : List X) (pairs all : List X) → i < length ls → a ≡ get_or ls i a → pairs ≡ g a → new ≡ out ++ filter t pairs → out ++ filter t (joined (map g (drop i ls))) ≡ all → new ++ filter t (joined (map g (drop (i + 1) ls))) ≡ all
+within-more g t ls i a out new pairs all l e s n h =
+    ap (λ zs. zs ++ filter t (joined (map g (drop (i + 1) ls)))) (n ∙ ap (λ zs. out ++ filter t zs) s)
+    ∙ append_assoc out (filter t (g a)) (filter t (joined (map g (drop (i + 1) ls))))
+    ∙ ap (λ zs. out ++ zs) (sym (filter-append t (g a) (joined (map g (drop (i + 1) ls)))))
+    ∙ ap (λ zs. out ++ filter t zs) (sym (leaf-next g ls i a l e))
+    ∙ h
+
+pub falls-first : {A X : Type 0} (g : A → List X) (t : X → Bool) (ls : List A) (i : ℕ) (a : A) (pairs : List X) → i < length ls → a ≡ get_or ls i a → pairs ≡ g a → Falls t (joined (map g (drop i ls))) → Falls t pairs
+falls-first g t ls i a pairs l e s h =
+    subst (Falls t) (sym s) (Falls-front t (g a) (joined (map g (drop (i + 1) ls))) (subst (Falls t) (leaf-next g ls i a l e) h))
+
+pub falls-rest : {A X : Type 0} (g : A → List X) (t : X → Bool) (ls : List A) (i : ℕ) (a : A) → i < length ls → a ≡ get_or ls i a → Falls t (joined (map g (drop i ls))) → Falls t (joined (map g (drop (i + 1) ls)))
+falls-rest g t ls i a l e h = Falls-back t (g a) (joined (map g (drop (i + 1) ls))) (subst (Falls t) (leaf-next g ls i a l e) h)
+
+-- the i-th pair, when those of a leaf are passed over, and in a leaf
+pub nth-more : {A X : Type 0} (g : A → List X) (ls : List A) (i left rest : ℕ) (a : A) (pairs : List X) (o : Option X) → i < length ls → a ≡ get_or ls i a → pairs ≡ g a → rest + length pairs ≡ left → slice_get (joined (map g (drop i ls))) left ≡ o → slice_get (joined (map g (drop (i + 1) ls))) rest ≡ o
+nth-more g ls i left rest a pairs o l e s k h =
+    sym (get-right (g a) (joined (map g (drop (i + 1) ls))) left rest (ap (λ zs. rest + length zs) (sym s) ∙ k)) ∙ ap (λ zs. slice_get zs left) (sym (leaf-next g ls i a l e)) ∙ h
+
+pub nth-there : {A X : Type 0} (g : A → List X) (ls : List A) (i left : ℕ) (a : A) (pairs : List X) (o : Option X) → i < length ls → a ≡ get_or ls i a → pairs ≡ g a → left < length pairs → slice_get (joined (map g (drop i ls))) left ≡ o → slice_get pairs left ≡ o
+nth-there g ls i left a pairs o l e s k h =
+    ap (λ zs. slice_get zs left) s
+    ∙ sym (get-left (g a) (joined (map g (drop (i + 1) ls))) left (subst (λ zs. left < length zs) s k))
+    ∙ ap (λ zs. slice_get zs left) (sym (leaf-next g ls i a l e))
+    ∙ h

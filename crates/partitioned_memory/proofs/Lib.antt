@@ -9,4 +9,9 @@ pub mod CallsKept
 pub mod BlockKept
 pub mod Spread
 pub mod Holding
+pub mod FactSpots
+pub mod AreaSpots
+pub mod PutSpots
+pub mod DirtySpots
+pub mod ByteSpots
 pub mod KnownBytes

@@ -1,18 +1,22 @@
 -- Laws of the order of spots, and of lists of pairs in it.
-use Rattle.std.proofs.Common.{◌≡◌, Bool, true, false, cond, List, [], ◌∷◌, ◌++◌, filter, Option, Some, None, refl, sym, ap, ◌∙◌, subst}
-use Rattle.std.specs.Prelude.{not, ◌||◌, ◌&&◌, find, option_to_list}
+use Rattle.std.proofs.Common.{◌≡◌, ℤ, ◌<ℤ◌, Bool, true, false, cond, List, [], ◌∷◌, ◌++◌, filter, Some, None, refl, sym, ap, ◌∙◌, subst}
+use Rattle.std.specs.Prelude.{not, ◌||◌, ◌&&◌, find}
 use Rattle.std.specs.Option.{option_map}
 use Rattle.std.specs.Cmp.{IsTotalOrder}
-use Rattle.std.specs.Ordering.{is_eq, is_lt, ordering_reverse}
+use Rattle.std.specs.Ordering.{MatchOrdering, int_cmp, int_eq, is_eq, is_lt, ordering_reverse}
 use Rattle.std.specs.declared.cmp.Ordering.{Ordering}
 use Rattle.std.specs.declared.cmp.Ordering.TheVariants.{Less, Equal, Greater}
-use Rattle.std.proofs.lemmas.Bool.{false≢true}
+use Rattle.std.proofs.lemmas.Bool.{and_parts, false≢true}
+use Rattle.std.proofs.lemmas.Cmp.{int_ranked}
 use Rattle.std.proofs.lemmas.List.Elements.{filter_agree}
+use Rattle.partitioned_memory.specs.declared.area.Area.{Area}
 use Rattle.partitioned_memory.specs.declared.fact.Spot.{Spot}
+use Rattle.partitioned_memory.specs.Areas.{same_area}
 use Rattle.partitioned_memory.specs.contracts.fact.SpotOrd.TheImpl as order
-use Rattle.partitioned_memory.specs.Lists.{Every, Ascends, Falls, around, placed}
+use Rattle.partitioned_memory.specs.Lists.{Ascends, around, placed}
 use Rattle.partitioned_memory.specs.Pairs.{IsParted, first_in, pair_before, pairs_with, pairs_without, same_spot, spot_before, spot_cmp, value_at}
 use Rattle.partitioned_memory.proofs.ListLaws.{Every-weaker, Every-kept, Ascends-filter, Ascends-placed}
+use Rattle.partitioned_memory.proofs.Orders.{same_area-is}
 use Rattle.partitioned_memory.proofs.Cuts.{Falls-ascending, around-none, placed-between}
 
 -- ---- spots
@@ -25,6 +29,24 @@ spot_total = order.Laws.total-law
 same_spot-by_cmp : (a b : Spot) → same_spot a b ≡ is_eq (spot_cmp a b)
 unfolding spot_cmp same_spot
 same_spot-by_cmp a b = order.Laws.matches_eq-law a b
+
+int-same : (x y : ℤ) → int_eq x y ≡ true → x ≡ y
+int-same x y e =
+    elim (int_cmp x y) as (λ o. is_eq o ≡ true → MatchOrdering o (x <ℤ y) (x ≡ y) (y <ℤ x) → x ≡ y) [
+      | Less ↦ λ h m. absurd (cc)
+      | Equal ↦ λ h m. m
+      | Greater ↦ λ h m. absurd (cc)
+    ] e (int_ranked x y (int_cmp x y) refl)
+
+pub same_spot-parts : (a b : Spot) → same_spot a b ≡ (same_area a.area b.area && int_eq a.low b.low)
+unfolding same_spot same_area
+same_spot-parts a b = refl
+
+pub same_spot-is : (a b : Spot) → same_spot a b ≡ true → a ≡ b
+same_spot-is a b e =
+    let parts = and_parts (same_area a.area b.area) (int_eq a.low b.low) (sym (same_spot-parts a b) ∙ e) in
+    ap (λ (z : Area). let s : Spot = record { area = z; low = a.low } in s) (same_area-is a.area b.area parts.0)
+    ∙ ap (λ (z : ℤ). let s : Spot = record { area = b.area; low = z } in s) (int-same a.low b.low parts.1)
 
 less-is : (o : Ordering) → is_lt o ≡ true → o ≡ Less
 less-is Less e = refl
@@ -57,7 +79,7 @@ same-by Equal = refl
 same-by Greater = refl
 
 -- a spot that is another comes before it or after it
-other-spot : (a b : Spot) → (spot_before a b || spot_before b a) ≡ not (same_spot a b)
+pub other-spot : (a b : Spot) → (spot_before a b || spot_before b a) ≡ not (same_spot a b)
 other-spot a b =
     ap (λ o. is_lt (spot_cmp a b) || is_lt o) (spot_total.antisymm b a)
     ∙ other-by (spot_cmp a b)
@@ -72,7 +94,7 @@ one-spot a b =
 
 -- ---- the pair of a spot
 
-from-not : (b : Bool) → not b ≡ false → b ≡ true
+pub from-not : (b : Bool) → not b ≡ false → b ≡ true
 from-not true e = refl
 from-not false e = absurd (cc)
 

@@ -1,5 +1,5 @@
 -- Lists of pairs of a spot and a value, ascending by spot, each spot once.
-use Rattle.std.specs.Prelude.{◌≡◌, Bool, not, ◌&&◌, List, filter, find, Option}
+use Rattle.std.specs.Prelude.{Bool, not, ◌&&◌, List, filter, find, Option}
 use Rattle.std.specs.Option.{option_map}
 use Rattle.std.specs.Ordering.{is_lt}
 use Rattle.std.specs.declared.cmp.Ordering.{Ordering}

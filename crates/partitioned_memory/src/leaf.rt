@@ -1,6 +1,7 @@
-ghost use Rattle.std.specs.Prelude.{◌≡◌, ◌≤◌, true, false, ◌∷◌, [], ◌++◌, IfOk, IfNone, IfSome, drop, filter, length, not, take};
+ghost use Rattle.std.specs.Prelude.{◌≡◌, ◌≤◌, ◌&&◌, true, false, ◌∷◌, [], ◌++◌, IfOk, IfNone, IfSome, drop, filter, length, not, slice_get, take};
 ghost use Rattle.partitioned_memory.specs.Lists.{Every, Falls};
 ghost use Rattle.partitioned_memory.specs.Leaves.{IsLeaf, before_edge, joined, last_passes, pairs_in, pieces};
+ghost use Rattle.partitioned_memory.specs.Pairs.{IsParted};
 
 use crate::fact::Spot;
 use crate::stretch::{Edge, Stretch, is_before_edge};
@@ -21,6 +22,18 @@ const LARGEST: usize = 64;
 const PART: usize = 44;
 
 impl<V: Copy> Leaf<V> {
+    pub(crate) fn len(&self) -> usize
+        ensures { result ≡ length self.now.pairs.items }
+    {
+        self.pairs.len()
+    }
+
+    pub(crate) fn get(&self, i: usize) -> Option<(Spot, V)>
+        ensures { result ≡ slice_get self.now.pairs.items i }
+    {
+        self.pairs.get(i).copied()
+    }
+
     // Whether its last pair lies before an edge of a stretch.
     fn is_before<S: Stretch<V>>(&self, stretch: &S, edge: Edge) -> bool
         ensures { result ≡ last_passes (before_edge edge (S.before stretch.now) (S.after stretch.now)) self.now.pairs.items }
@@ -33,11 +46,7 @@ impl<V: Copy> Leaf<V> {
 }
 
 // How many pairs lie before an edge of a stretch: they come first.
-fn place_of_pair<V: Copy, S: Stretch<V>>(
-    pairs: &[(Spot, V)],
-    stretch: &S,
-    edge: Edge,
-) -> usize
+fn place_of_pair<V: Copy, S: Stretch<V>>(pairs: &[(Spot, V)], stretch: &S, edge: Edge) -> usize
     requires { Falls (before_edge edge (S.before stretch.now) (S.after stretch.now)) pairs.now }
     ensures within { result ≤ length pairs.now }
     ensures front { Every (λ p. before_edge edge (S.before stretch.now) (S.after stretch.now) p ≡ true) (take result pairs.now) }
@@ -46,12 +55,27 @@ fn place_of_pair<V: Copy, S: Stretch<V>>(
     pairs.partition_point(|pair| is_before_edge(stretch, edge, pair))
 }
 
-// How many leaves lie before it whole.
-fn place_of_leaf<V: Copy, S: Stretch<V>>(
-    leaves: &[Arc<Leaf<V>>],
+/// Appends those pairs of a leaf that are in a stretch.
+pub(crate) fn push_within<V: Copy, S: Stretch<V>>(
+    out: &mut Vec<(Spot, V)>,
+    leaf: &Leaf<V>,
     stretch: &S,
-    edge: Edge,
-) -> usize
+) -> Result<(), NoMemory>
+    requires { IsParted (S.before stretch.now) (S.after stretch.now) leaf.now.pairs.items }
+    ensures { IfOk result (λ _. out.new.items ≡ out.old.items ++ filter (λ p. not (S.before stretch.now p) && not (S.after stretch.now p)) leaf.now.pairs.items) }
+{
+    let pairs = leaf.pairs.as_slice();
+    let start = place_of_pair(pairs, stretch, Edge::Start);
+    let end = place_of_pair(pairs, stretch, Edge::End);
+    if end <= start {
+        return Ok(());
+    }
+    out.extend_from_slice(&pairs[start..end])?;
+    Ok(())
+}
+
+// How many leaves lie before it whole.
+fn place_of_leaf<V: Copy, S: Stretch<V>>(leaves: &[Arc<Leaf<V>>], stretch: &S, edge: Edge) -> usize
     requires { Falls (λ leaf. last_passes (before_edge edge (S.before stretch.now) (S.after stretch.now)) (pairs_in leaf)) leaves.now }
     ensures within { result ≤ length leaves.now }
     ensures front { Every (λ leaf. last_passes (before_edge edge (S.before stretch.now) (S.after stretch.now)) (pairs_in leaf) ≡ true) (take result leaves.now) }

@@ -1,10 +1,10 @@
-ghost use Rattle.std.specs.Prelude.{◌≡◌, [], ◌++◌, IfOk, filter, not, option_to_list, slice_get};
+ghost use Rattle.std.specs.Prelude.{◌≡◌, [], ◌++◌, ◌&&◌, IfOk, filter, not, option_to_list, slice_get};
 ghost use Rattle.partitioned_memory.specs.Lists.{Ascends, Every, Falls, around};
 ghost use Rattle.partitioned_memory.specs.Leaves.{IsLeaf, joined, pieces, unless};
 ghost use Rattle.partitioned_memory.specs.Pairs.{IsParted, first_in, pair_before, pairs_with, pairs_without, value_at};
 
 use crate::fact::Spot;
-use crate::leaf::{Leaf, cut_at, push_pairs, push_shared};
+use crate::leaf::{Leaf, cut_at, push_pairs, push_shared, push_within};
 use crate::stretch::{Edge, Stretch};
 use bit_words::NoMemory;
 use std::alloc::Global;
@@ -87,6 +87,28 @@ impl<V: Copy> Spots<V> {
         unless_after(stretch, next_pair(&self.leaves, stretch))
     }
 
+    /// The leaves in which the pairs lie.
+    pub(crate) fn leaves(&self) -> &[Arc<Leaf<V>>]
+        ensures { joined (pieces result.now) ≡ self.now }
+    {
+        &self.leaves
+    }
+
+    /// The pairs in a stretch.
+    pub(crate) fn within<S: Stretch<V>>(&self, stretch: &S) -> Result<Vec<(Spot, V)>, NoMemory>
+        requires { IsParted (S.before stretch.now) (S.after stretch.now) self.now }
+        ensures { IfOk result (λ all. all.items ≡ filter (λ p. not (S.before stretch.now p) && not (S.after stretch.now p)) self.now) }
+    {
+        pairs_within(self.alloc(), &self.leaves, stretch)
+    }
+
+    /// The i-th pair, counted from 0.
+    pub(crate) fn nth(&self, i: usize) -> Option<(Spot, V)>
+        ensures { result ≡ slice_get self.now i }
+    {
+        nth_pair(&self.leaves, i)
+    }
+
     /// The pairs before a stretch, perhaps one in its place, and those after it.
     pub(crate) fn around<S: Stretch<V>>(
         &self,
@@ -112,11 +134,39 @@ fn next_pair<V: Copy, S: Stretch<V>>(leaves: &[Arc<Leaf<V>>], stretch: &S) -> Op
     cut_at(leaves, stretch, Edge::Start)?.right.first().copied()
 }
 
-// A pair, unless it lies after a stretch.
-fn unless_after<V: Copy, S: Stretch<V>>(
+// The pairs in a stretch.
+fn pairs_within<V: Copy, S: Stretch<V>>(
+    alloc: Global,
+    leaves: &[Arc<Leaf<V>>],
     stretch: &S,
-    next: Option<(Spot, V)>,
-) -> Option<(Spot, V)>
+) -> Result<Vec<(Spot, V)>, NoMemory>
+    requires { IsParted (S.before stretch.now) (S.after stretch.now) (joined (pieces leaves.now)) }
+    ensures { IfOk result (λ all. all.items ≡ filter (λ p. not (S.before stretch.now p) && not (S.after stretch.now p)) (joined (pieces leaves.now))) }
+{
+    let mut all = Vec::new(alloc);
+    for leaf in leaves {
+        push_within(&mut all, leaf, stretch)?;
+    }
+    Ok(all)
+}
+
+// The i-th pair, counted from 0.
+fn nth_pair<V: Copy>(leaves: &[Arc<Leaf<V>>], i: usize) -> Option<(Spot, V)>
+    ensures { result ≡ slice_get (joined (pieces leaves.now)) i }
+{
+    let mut left = i;
+    for leaf in leaves {
+        let count = leaf.len();
+        if left < count {
+            return leaf.get(left);
+        }
+        left -= count;
+    }
+    None
+}
+
+// A pair, unless it lies after a stretch.
+fn unless_after<V: Copy, S: Stretch<V>>(stretch: &S, next: Option<(Spot, V)>) -> Option<(Spot, V)>
     ensures { result ≡ unless (S.after stretch.now) next }
 {
     let pair = next?;
@@ -146,10 +196,7 @@ fn pairs_around<V: Copy>(
 }
 
 // The leaves of one pair, or of none.
-fn leaves_of<V: Copy>(
-    alloc: Global,
-    new: Option<(Spot, V)>,
-) -> Result<Vec<Arc<Leaf<V>>>, NoMemory>
+fn leaves_of<V: Copy>(alloc: Global, new: Option<(Spot, V)>) -> Result<Vec<Arc<Leaf<V>>>, NoMemory>
     ensures pairs { IfOk result (λ all. joined (pieces all.items) ≡ option_to_list new) }
     ensures leaves { IfOk result (λ all. Every IsLeaf (pieces all.items)) }
 {

@@ -33,17 +33,14 @@ fn wanted(count: u16, low: i64, changed: i64, value: Option<u64>) -> Option<u64>
 }
 
 // Each place of so many pairs, those between them and those around them.
-fn check(
-    rt: &impl Abort,
-    spots: &Spots<u64>,
-    count: u16,
-    changed: i64,
-    value: Option<u64>,
-) {
+fn check(rt: &impl Abort, spots: &Spots<u64>, count: u16, changed: i64, value: Option<u64>) {
     for i in 0..4 * u32::from(count) + 16 {
         let low = i64::from(i) - 8;
         let want = wanted(count, low, changed, value);
-        assert!(rt; spots.get(&at(IMAGE, low)) == want, "at {low} of {count}, {changed} changed");
+        assert!(rt;
+            spots.get(&at(IMAGE, low)) == want,
+            "at {low} of {count}, {changed} changed"
+        );
     }
 }
 
@@ -97,7 +94,13 @@ fn leaves_part_and_shrink(rt: HostRuntime) -> Result<(), Fail> {
     ] {
         let spots = numbered(rt.alloc(), count)?;
         check(&rt, &spots, count, -1, None);
-        check(&rt, &spots.insert(at(IMAGE, low), 77)?, count, low, Some(77));
+        check(
+            &rt,
+            &spots.insert(at(IMAGE, low), 77)?,
+            count,
+            low,
+            Some(77),
+        );
         check(&rt, &spots.remove(&at(IMAGE, low))?, count, low, None);
         check(&rt, &spots, count, -1, None);
     }

@@ -1,4 +1,4 @@
-use Rattle.std.proofs.Common.{◌≡◌, List, ap, ◌∙◌, filter, subst, sym}
+use Rattle.std.proofs.Common.{List, ap, ◌∙◌, filter, sym}
 use Rattle.std.specs.Prelude.{not, slice_get}
 use Rattle.partitioned_memory.specs.declared.fact.Spot.{Spot}
 use Rattle.partitioned_memory.specs.Leaves.{joined, pieces, unless}
