@@ -1,11 +1,12 @@
 -- At most one refusal holds of a string of bytes.
-use Rattle.std.proofs.Common.{◌≡◌, ℕ, ◌+◌, ◌<◌, List, ◌++◌, length, take, drop, refl, sym, ◌∙◌, ap, subst, inl, inr, append_assoc, arith}
+use Rattle.std.proofs.Common.{◌≡◌, ℕ, ◌+◌, ◌-◌, ◌<◌, List, ◌++◌, length, take, drop, refl, sym, ◌∙◌, ap, subst, inl, inr, append_assoc, arith}
 use Rattle.std.proofs.lemmas.Bool.{cases_lt}
 use Rattle.std.proofs.lemmas.List.{take-append-drop, take_all}
 use Rattle.x86_syntax.specs.Spelling.{spelled}
 use Rattle.x86_decoder.specs.declared.fault.DecodeFault.{DecodeFault}
 use Rattle.x86_decoder.specs.declared.fault.DecodeFault.TheVariants.{NotListed, Truncated, TooLong}
 use Rattle.x86_decoder.specs.Refusals.{IsFront, LeavesAt, GoesOn, Refused}
+use Rattle.x86_decoder.proofs.Fronts.{Further, further_of}
 
 -- a front of a front
 front_of : (k : ℕ) (xs : List ℕ) → IsFront xs → IsFront (take k xs)
@@ -16,8 +17,9 @@ front_of k xs (rest, (i, names)) =
 -- what goes on is a front as a whole
 goes_on_front : (bytes : List ℕ) → GoesOn bytes → IsFront (take 15 bytes)
 goes_on_front bytes on =
-    let same : take 15 bytes ≡ bytes = take_all 15 bytes (let few : length bytes < 15 = on.fewer in omega arith) in
-    subst IsFront (sym same) (on.rest, on.whole)
+    let more : Further (15 - length bytes) bytes = further_of (15 - length bytes) bytes on in
+    let same : take 15 bytes ≡ bytes = take_all 15 bytes (omega (arith, more.more, more.short)) in
+    subst IsFront (sym same) (more.rest, (more.names, more.whole))
 
 -- no spelling leaves where all that counts is a front
 not_both : (at : ℕ) (bytes : List ℕ) → LeavesAt at (take 15 bytes) → IsFront (take 15 bytes) → ⊥

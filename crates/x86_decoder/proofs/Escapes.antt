@@ -1,6 +1,7 @@
 -- The sets behind 0F and 0F 1E, and behind prefixes.
-use Rattle.std.proofs.Common.{◌≡◌, ℕ, ◌≤◌, List, [], ◌∷◌, Bool, true, false, length, refl, Option, Some, None, arith, cond}
-use Rattle.std.specs.Prelude.{◌==◌}
+use Rattle.std.proofs.Common.{◌≡◌, ℕ, ◌≤◌, List, [], ◌∷◌, Bool, true, false, length, ◌<◌, refl, Option, Some, None, arith, cond}
+use Rattle.std.specs.Prelude.{◌==◌, All}
+use Rattle.std.proofs.lemmas.List.Elements.{All-cons, All-nil}
 use Rattle.std.specs.Option.{option_and_then}
 use Rattle.x86_syntax.specs.declared.instr.Instr.{Instr}
 use Rattle.bit_words.specs.declared.width.Width.TheVariants.{B32}
@@ -20,6 +21,12 @@ use Rattle.x86_syntax.proofs.FormatLemmas.{never_matched}
 use Rattle.x86_syntax.proofs.TableLemmas.{prefixed, two_dead, three_dead, lock_modrm, size_modrm, rep_modrm}
 use Rattle.x86_decoder.specs.Reading.{shortest_behind, shortest_escaped}
 use Rattle.x86_decoder.proofs.Shortest.{Shortest}
+
+one_byte : (b : ℕ) → b < 256 → All (λ x. x < 256) (b ∷ [])
+one_byte b small = All-cons (λ x. x < 256) b [] small (All-nil (λ x. x < 256))
+
+two_bytes : (b c : ℕ) → b < 256 → c < 256 → All (λ x. x < 256) (b ∷ c ∷ [])
+two_bytes b c small less = All-cons (λ x. x < 256) b (c ∷ []) small (one_byte c less)
 
 -- an instruction, for a set that has the string
 abbrev named_by : Option Instr → Instr
@@ -54,6 +61,7 @@ pub third_shortest : (segment : Option ℕ) → Shortest (matched (Byte (λ code
 unfolding matched opcode_then opcode_row behind ending
 third_shortest segment = record {
   string = 0xFB ∷ [];
+  are_bytes = one_byte 0xFB (omega arith);
   size = refl;
   names = named_by (matched (Byte (λ code. opcode_then (prefixed Rep false segment) Three code)) (0xFB ∷ []));
   whole = refl;
@@ -79,6 +87,7 @@ pub second_shortest : (group : Group) (size : Bool) (segment : Option ℕ) → m
 unfolding matched escaped opcode_then opcode_row row_of behind behind_modrm place_then address_then ending
 second_shortest Empty false segment h = record {
   string = 0x0B ∷ [];
+  are_bytes = one_byte 0x0B (omega arith);
   size = refl;
   names = named_by (matched (Byte (λ code. escaped (prefixed Empty false segment) code)) (0x0B ∷ []));
   whole = refl;
@@ -86,6 +95,7 @@ second_shortest Empty false segment h = record {
 }
 second_shortest Empty true segment h = record {
   string = 0x40 ∷ 0 ∷ [];
+  are_bytes = two_bytes 0x40 0 (omega arith) (omega arith);
   size = refl;
   names = named_by (matched (Byte (λ code. escaped (prefixed Empty true segment) code)) (0x40 ∷ 0 ∷ []));
   whole = refl;
@@ -93,6 +103,7 @@ second_shortest Empty true segment h = record {
 }
 second_shortest Rep false segment h = record {
   string = 0x1E ∷ 0xFB ∷ [];
+  are_bytes = two_bytes 0x1E 0xFB (omega arith) (omega arith);
   size = refl;
   names = named_by (matched (Byte (λ code. escaped (prefixed Rep false segment) code)) (0x1E ∷ 0xFB ∷ []));
   whole = refl;
@@ -136,11 +147,11 @@ some_byte_least p (b ∷ x) i h = omega arith
 
 pub prefixes_shortest : (group : Group) (size : Bool) (segment : Option ℕ) → Shortest (spelled_with (prefixed group size segment)) (shortest_behind group)
 unfolding spelled_with is_prefix opcodes matched opcode_then opcode_row row_of behind behind_modrm place_then address_then ending
-prefixes_shortest Empty true segment = record { string = 0x90 ∷ []; size = refl; names = named_by (spelled_with (prefixed Empty true segment) (0x90 ∷ [])); whole = refl; least = some_byte_least (prefixed Empty true segment) }
-prefixes_shortest Empty false segment = record { string = 0x90 ∷ []; size = refl; names = named_by (spelled_with (prefixed Empty false segment) (0x90 ∷ [])); whole = refl; least = some_byte_least (prefixed Empty false segment) }
-prefixes_shortest Rep true segment = record { string = 0x90 ∷ []; size = refl; names = named_by (spelled_with (prefixed Rep true segment) (0x90 ∷ [])); whole = refl; least = some_byte_least (prefixed Rep true segment) }
-prefixes_shortest Rep false segment = record { string = 0x90 ∷ []; size = refl; names = named_by (spelled_with (prefixed Rep false segment) (0x90 ∷ [])); whole = refl; least = some_byte_least (prefixed Rep false segment) }
-prefixes_shortest Repne true segment = record { string = 0xA7 ∷ []; size = refl; names = named_by (spelled_with (prefixed Repne true segment) (0xA7 ∷ [])); whole = refl; least = some_byte_least (prefixed Repne true segment) }
-prefixes_shortest Repne false segment = record { string = 0xA7 ∷ []; size = refl; names = named_by (spelled_with (prefixed Repne false segment) (0xA7 ∷ [])); whole = refl; least = some_byte_least (prefixed Repne false segment) }
-prefixes_shortest Lock true segment = record { string = 0x01 ∷ 0 ∷ []; size = refl; names = named_by (spelled_with (prefixed Lock true segment) (0x01 ∷ 0 ∷ [])); whole = refl; least = lock_least true segment }
-prefixes_shortest Lock false segment = record { string = 0x01 ∷ 0 ∷ []; size = refl; names = named_by (spelled_with (prefixed Lock false segment) (0x01 ∷ 0 ∷ [])); whole = refl; least = lock_least false segment }
+prefixes_shortest Empty true segment = record { string = 0x90 ∷ []; are_bytes = one_byte 0x90 (omega arith); size = refl; names = named_by (spelled_with (prefixed Empty true segment) (0x90 ∷ [])); whole = refl; least = some_byte_least (prefixed Empty true segment) }
+prefixes_shortest Empty false segment = record { string = 0x90 ∷ []; are_bytes = one_byte 0x90 (omega arith); size = refl; names = named_by (spelled_with (prefixed Empty false segment) (0x90 ∷ [])); whole = refl; least = some_byte_least (prefixed Empty false segment) }
+prefixes_shortest Rep true segment = record { string = 0x90 ∷ []; are_bytes = one_byte 0x90 (omega arith); size = refl; names = named_by (spelled_with (prefixed Rep true segment) (0x90 ∷ [])); whole = refl; least = some_byte_least (prefixed Rep true segment) }
+prefixes_shortest Rep false segment = record { string = 0x90 ∷ []; are_bytes = one_byte 0x90 (omega arith); size = refl; names = named_by (spelled_with (prefixed Rep false segment) (0x90 ∷ [])); whole = refl; least = some_byte_least (prefixed Rep false segment) }
+prefixes_shortest Repne true segment = record { string = 0xA7 ∷ []; are_bytes = one_byte 0xA7 (omega arith); size = refl; names = named_by (spelled_with (prefixed Repne true segment) (0xA7 ∷ [])); whole = refl; least = some_byte_least (prefixed Repne true segment) }
+prefixes_shortest Repne false segment = record { string = 0xA7 ∷ []; are_bytes = one_byte 0xA7 (omega arith); size = refl; names = named_by (spelled_with (prefixed Repne false segment) (0xA7 ∷ [])); whole = refl; least = some_byte_least (prefixed Repne false segment) }
+prefixes_shortest Lock true segment = record { string = 0x01 ∷ 0 ∷ []; are_bytes = two_bytes 0x01 0 (omega arith) (omega arith); size = refl; names = named_by (spelled_with (prefixed Lock true segment) (0x01 ∷ 0 ∷ [])); whole = refl; least = lock_least true segment }
+prefixes_shortest Lock false segment = record { string = 0x01 ∷ 0 ∷ []; are_bytes = two_bytes 0x01 0 (omega arith) (omega arith); size = refl; names = named_by (spelled_with (prefixed Lock false segment) (0x01 ∷ 0 ∷ [])); whole = refl; least = lock_least false segment }

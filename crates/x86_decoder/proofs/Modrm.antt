@@ -2,6 +2,7 @@
 use Rattle.std.proofs.Common.{◌≡◌, ℕ, ◌+◌, ◌*◌, ◌≤◌, ◌<◌, List, [], ◌∷◌, Bool, true, false, length, refl, sym, ap, Option, Some, None, arith, cond, inl, inr, min}
 use Rattle.std.proofs.Math.Bool.{and-false}
 use Rattle.std.specs.Prelude.{◌==◌, ◌&&◌, IfSome}
+use Rattle.std.proofs.lemmas.List.Elements.{All-cons}
 use Rattle.std.proofs.lemmas.Bool.{cases_lt}
 use Rattle.x86_syntax.specs.declared.instr.Instr.{Instr}
 use Rattle.x86_syntax.specs.declared.instr.Place.{Place}
@@ -66,6 +67,7 @@ modrm_shortest p map code n h =
     let whole : matched (behind_modrm p (row_of p map code (reg_of m)) code m) s.string ≡ Some s.names = rw (reg, h.found, at_eax p h.row code h.reg h.small) s.whole in
     record {
       string = m ∷ s.string;
+      are_bytes = All-cons (λ b. b < 256) m s.string (let small = h.small in omega arith) s.are_bytes;
       size = omega (arith, s.size, h.size);
       names = s.names;
       whole = whole;
@@ -82,7 +84,7 @@ modrm_begins p map code first found =
     let s = address_shortest 0 0 (row_number_size p other.0) None _ (ending_shortest p other.0 code m) in
     let reg : reg_of m ≡ first.low = omega arith in
     let whole : matched (behind_modrm p (row_of p map code (reg_of m)) code m) s.string ≡ Some s.names = rw (reg, other.1, at_eax p other.0 code first.low small) s.whole in
-    record { rest = m ∷ s.string; more = omega arith; names = s.names; whole = whole }
+    record { rest = m ∷ s.string; are_bytes = All-cons (λ b. b < 256) m s.string (omega arith) s.are_bytes; more = omega arith; names = s.names; whole = whole }
 
 -- the row of the first reg field begins the search for the least number
 pub least_begins : (p : Prefixes) (map : Map) (code : ℕ) (first : Row) (n : ℕ) → opcode_row p map code ≡ Some first → IfSome (row_of p map code first.low) (λ row. n ≡ row_number_size p row) → IsLeastBelow 0 p map code n

@@ -1,5 +1,5 @@
 -- An answer on what is still to be read, carried back over the bytes before it.
-use Rattle.std.proofs.Common.{◌≡◌, ℕ, suc, zero, ◌+◌, ◌≤◌, ◌<◌, List, [], ◌∷◌, ◌++◌, inl, inr, Bool, true, false, length, take, drop, refl, sym, ◌∙◌, ap, Option, Some, None, Result, Ok, Err, arith, cond, append_assoc, length-append}
+use Rattle.std.proofs.Common.{◌≡◌, ℕ, suc, zero, ◌+◌, ◌-◌, ◌≤◌, ◌<◌, List, [], ◌∷◌, ◌++◌, inl, inr, Bool, true, false, length, take, drop, refl, sym, ◌∙◌, ap, Option, Some, None, Result, Ok, Err, arith, cond, append_assoc, length-append}
 use Rattle.std.proofs.lemmas.List.{length-take}
 use Rattle.std.proofs.lemmas.Bool.{cases_lt, leb-true, leb-false}
 use Rattle.std.proofs.Math.Seq.{take-length}
@@ -14,9 +14,10 @@ use Rattle.x86_decoder.specs.declared.fault.DecodeFault.{DecodeFault}
 use Rattle.x86_decoder.specs.declared.fault.DecodeFault.TheVariants.{NotListed, Truncated, TooLong}
 use Rattle.x86_decoder.specs.Refusals.{IsFront, Refused}
 use Rattle.x86_decoder.specs.Reading.{Begins, Leaves, Reads, ReadsOrDead, Needs, fault_at}
+use Rattle.x86_decoder.proofs.Fronts.{Further, further_of, goes_on_by}
 
 begins_byte : (lang next : List ℕ → Option Instr) (b : ℕ) (bytes : List ℕ) → ((s : List ℕ) → lang (b ∷ s) ≡ next s) → Begins next bytes → Begins lang (b ∷ bytes)
-begins_byte lang next b bytes step h = record { rest = h.rest; more = h.more; names = h.names; whole = step (bytes ++ h.rest) ∙ h.whole }
+begins_byte lang next b bytes step h = record { rest = h.rest; are_bytes = h.are_bytes; more = h.more; names = h.names; whole = step (bytes ++ h.rest) ∙ h.whole }
 
 -- an answer behind a byte is one before it
 pub reads_byte : (lang next : List ℕ → Option Instr) (b : ℕ) (bytes : List ℕ) (at : ℕ) (r : Result (Instr × ℕ) DecodeFault) → ((s : List ℕ) → lang (b ∷ s) ≡ next s) → Reads next bytes (at + 1) r → Reads lang (b ∷ bytes) at r
@@ -29,7 +30,7 @@ reads_byte lang next b bytes at (Err (NotListed index)) step h = record {
   none = λ x. step (take (suc h.size) bytes ++ x) ∙ h.none x;
 }
 reads_byte lang next b bytes at (Err Truncated) step h = record {
-  begins = record { rest = h.begins.rest; more = h.begins.more; names = h.begins.names; whole = step (bytes ++ h.begins.rest) ∙ h.begins.whole };
+  begins = record { rest = h.begins.rest; are_bytes = h.begins.are_bytes; more = h.begins.more; names = h.begins.names; whole = step (bytes ++ h.begins.rest) ∙ h.begins.whole };
   short = omega (arith, h.short);
 }
 reads_byte lang next b bytes at (Err TooLong) step h = record {
@@ -154,14 +155,11 @@ reads_refused bytes (Err (NotListed index)) h =
 reads_refused bytes (Err Truncated) h =
     let few : length bytes < 15 = omega (arith, h.short, h.begins.more, length-take 15 bytes) in
     let same : take 15 bytes ≡ bytes = short_front bytes few in
-    record {
-      fewer = few;
-      rest = h.begins.rest;
-      more = h.begins.more;
-      short = omega (arith, h.short, ap length same);
-      whole = (h.begins.names, rw (sym same) h.begins.whole);
-    }
+    goes_on_by (15 - length bytes) bytes h.begins.rest h.begins.names h.begins.more (omega (arith, h.short, ap length same)) h.begins.are_bytes (rw (sym same) h.begins.whole)
 reads_refused bytes (Err TooLong) h = (
   (h.begins.rest, (h.begins.names, h.begins.whole)),
-  λ on. absurd (omega (arith, on.short, ap length (short_front bytes on.fewer), h.long on.rest on.whole.0 (rw (short_front bytes on.fewer) on.whole.1))),
+  λ on.
+      let more : Further (15 - length bytes) bytes = further_of (15 - length bytes) bytes on in
+      let few : length bytes < 15 = omega (arith, more.short, more.more) in
+      absurd (omega (arith, more.short, ap length (short_front bytes few), h.long more.rest more.names (rw (short_front bytes few) more.whole))),
 )

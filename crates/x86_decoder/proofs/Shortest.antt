@@ -1,7 +1,8 @@
 -- The shortest strings of the sets behind an opcode.
 use Rattle.std.proofs.Common.{◌≡◌, ℕ, suc, zero, ◌+◌, ◌-◌, ◌*◌, ◌≤◌, ◌<◌, List, [], ◌∷◌, ◌++◌, Bool, true, false, length, take, drop, refl, sym, ◌∙◌, ap, Option, Some, Result, arith, cond, length-append, append_assoc, replicate}
 use Rattle.std.proofs.lemmas.List.{length-take-le, length-replicate}
-use Rattle.std.specs.Prelude.{◌==◌}
+use Rattle.std.proofs.lemmas.List.Elements.{All-cons, All-nil}
+use Rattle.std.specs.Prelude.{◌==◌, All}
 use Rattle.x86_syntax.specs.declared.instr.Instr.{Instr}
 use Rattle.x86_syntax.specs.declared.instr.Place.{Place}
 use Rattle.x86_syntax.specs.declared.prefixes.Prefixes.{Prefixes}
@@ -15,6 +16,7 @@ use Rattle.x86_decoder.proofs.Readings.{reads_byte}
 -- the shortest strings of the set have k bytes
 pub record Shortest (lang : List ℕ → Option Instr) (k : ℕ) : Type 0 where
   pub string : List ℕ
+  pub are_bytes : All (λ b. b < 256) string
   pub size : length string ≡ k
   pub names : Instr
   pub whole : lang string ≡ Some names
@@ -22,7 +24,7 @@ pub record Shortest (lang : List ℕ → Option Instr) (k : ℕ) : Type 0 where
 
 pub shortest_needs : (lang : List ℕ → Option Instr) (k : ℕ) → 0 < k → Shortest lang k → Needs lang [] k
 shortest_needs lang k some h = record {
-  begins = record { rest = h.string; more = omega (arith, h.size); names = h.names; whole = h.whole };
+  begins = record { rest = h.string; are_bytes = h.are_bytes; more = omega (arith, h.size); names = h.names; whole = h.whole };
   size = omega (arith, h.size);
   least = λ x i whole. omega (arith, h.least x i whole);
 }
@@ -69,6 +71,11 @@ number_joined n go xs ys e =
     let step = number_step n go (xs ++ ys) (omega (arith, length-append xs ys)) in
     rw (take_front n xs ys e, drop_front n xs ys e) at step
 
+-- zeros before bytes are bytes
+bytes_behind_zeros : (n : ℕ) (string : List ℕ) → All (λ b. b < 256) string → All (λ b. b < 256) (replicate n 0 ++ string)
+bytes_behind_zeros zero string small = small
+bytes_behind_zeros (suc n) string small = All-cons (λ b. b < 256) 0 (replicate n 0 ++ string) (omega arith) (bytes_behind_zeros n string small)
+
 pub number_shortest : (n k : ℕ) (go : ℕ → Format Instr) → ((v : ℕ) → Shortest (matched (go v)) k) → Shortest (matched (number_then n go)) (n + k)
 number_shortest n k go each =
     let zeros = replicate n 0 in
@@ -76,6 +83,7 @@ number_shortest n k go each =
     let s = each (number_of zeros) in
     record {
       string = zeros ++ s.string;
+      are_bytes = bytes_behind_zeros n s.string s.are_bytes;
       size = omega (arith, length-append zeros s.string, s.size);
       names = s.names;
       whole = number_joined n go zeros s.string size ∙ s.whole;
@@ -92,6 +100,7 @@ number_needs n k go bytes few each =
     record {
       begins = record {
         rest = zeros ++ s.string;
+        are_bytes = bytes_behind_zeros (n - length bytes) s.string s.are_bytes;
         more = omega (arith, length-append zeros s.string);
         names = s.names;
         whole = ap (matched (number_then n go)) (sym (append_assoc bytes zeros s.string)) ∙ number_joined n go (bytes ++ zeros) s.string size ∙ s.whole;
@@ -114,7 +123,7 @@ reads_number (suc n) go (b ∷ bytes) at r le h =
 
 whole_shortest : (i : Instr) → Shortest (matched (Whole i)) 0
 unfolding matched
-whole_shortest i = record { string = []; size = omega arith; names = i; whole = refl; least = λ x j h. omega arith }
+whole_shortest i = record { string = []; are_bytes = All-nil (λ b. b < 256); size = omega arith; names = i; whole = refl; least = λ x j h. omega arith }
 
 pub ending_shortest : (p : Prefixes) (row : Row) (code modrm : ℕ) (place : Place) → Shortest (matched (ending p row code modrm place)) (row_number_size p row)
 unfolding ending
@@ -176,6 +185,7 @@ sib_shortest mode k go each =
     let s = address_shortest mode (rm_of 0) k (index_register 0) go each in
     record {
       string = 0 ∷ s.string;
+      are_bytes = All-cons (λ b. b < 256) 0 s.string (omega arith) s.are_bytes;
       size = omega (arith, s.size);
       names = s.names;
       whole = s.whole;

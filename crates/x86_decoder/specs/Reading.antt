@@ -1,6 +1,6 @@
 -- What an answer says of the bytes that are still to be read. `lang` is the set of strings that may follow, each with
 -- the instruction that it completes, `bytes` are those that do follow, of the first 15, and `at` were read before.
-use Rattle.std.specs.Prelude.{◌≡◌, ℕ, suc, ◌+◌, ◌<◌, ◌≤◌, ◌⊎◌, Bool, false, nat_le, if◌then◌else◌, List, ◌++◌, length, take, Option, Some, None, Result, Ok, Err}
+use Rattle.std.specs.Prelude.{◌≡◌, ℕ, suc, ◌+◌, ◌<◌, ◌≤◌, ◌⊎◌, Bool, false, nat_le, if◌then◌else◌, List, ◌++◌, length, take, Option, Some, None, Result, Ok, Err, All}
 use Rattle.x86_syntax.specs.declared.instr.Instr.{Instr}
 use Rattle.x86_syntax.specs.declared.table.Map.{Map}
 use Rattle.x86_syntax.specs.declared.table.Row.{Row}
@@ -19,9 +19,10 @@ pub record Ends (lang : List ℕ → Option Instr) (bytes : List ℕ) (at : ℕ)
   pub within : size ≤ length bytes
   pub names : lang (take size bytes) ≡ Some i
 
--- some string of the set begins with these bytes and is longer
+-- some string of the set begins with these bytes and is longer, by bytes
 pub record Begins (lang : List ℕ → Option Instr) (bytes : List ℕ) : Type 0 where
   pub rest : List ℕ
+  pub are_bytes : All (λ b. b < 256) rest
   pub more : 0 < length rest
   pub names : Instr
   pub whole : lang (bytes ++ rest) ≡ Some names

@@ -1,5 +1,6 @@
 -- When no instruction stands at the front of a string of bytes.
-use Rattle.std.specs.Prelude.{◌≡◌, ℕ, ◌+◌, ◌<◌, ◌≤◌, List, ◌++◌, length, take, Some}
+use Rattle.std.specs.Prelude.{◌≡◌, ℕ, zero, suc, ◌+◌, ◌-◌, ◌<◌, Bool, true, false, ◌||◌, List, [], ◌∷◌, ◌++◌, length, take, Some, is_some}
+use Rattle.std.specs.List.{list_any, range_with_len}
 use Rattle.x86_syntax.specs.declared.instr.Instr.{Instr}
 use Rattle.x86_syntax.specs.Spelling.{spelled}
 use Rattle.x86_decoder.specs.declared.fault.DecodeFault.{DecodeFault}
@@ -18,13 +19,17 @@ pub record LeavesAt (at : ℕ) (bytes : List ℕ) : Type 0 where
   pub before : (i : ℕ) → i < at → IsFront (take (i + 1) bytes)
   pub there : IsFront (take (at + 1) bytes) → ⊥
 
+-- whether one to n bytes more make a spelling
+unfoldable pub goes_on : ℕ → List ℕ → Bool
+goes_on zero bytes = false
+goes_on (suc n) bytes = list_any (λ b. is_some (spelled (bytes ++ b ∷ [])) || goes_on n (bytes ++ b ∷ [])) (range_with_len 0 256)
+
 -- fewer than 15 bytes, and more of them make a spelling of at most 15
-pub record GoesOn (bytes : List ℕ) : Type 0 where
-  pub fewer : length bytes < 15
-  pub rest : List ℕ
-  pub more : 0 < length rest
-  pub short : length bytes + length rest ≤ 15
-  pub whole : IsSpelling (bytes ++ rest)
+abbrev pub is_truncated : List ℕ → Bool
+is_truncated bytes = goes_on (15 - length bytes) bytes
+
+abbrev pub GoesOn : List ℕ → Type 0
+GoesOn bytes = is_truncated bytes ≡ true
 
 -- why no instruction stands at the front: only the first 15 bytes count
 abbrev pub Refused : DecodeFault → List ℕ → Type 0
