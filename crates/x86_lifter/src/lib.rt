@@ -4,6 +4,8 @@
 #![tactic(auto)]
 
 mod arithmetic;
+mod bit_tests;
+mod exchanges;
 mod flag_bits;
 mod flow;
 mod lifting;

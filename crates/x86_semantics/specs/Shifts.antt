@@ -17,11 +17,15 @@ use Rattle.x86_semantics.specs.Operands.{Ended, Next, at_address, with_flags, re
 abbrev pub freed_if : Bool → FlagSet → Choice → Flags → Flags
 freed_if t which choice f = if t then freed which choice f else f
 
--- the flags after a shift of a by c to r: none changes by a count of 0; OF is free but for a count of 1, CF for one of the width or more
-abbrev pub shifted_flags : FlagRule → Width → ℕ → ℕ → ℕ → Choice → Flags → Flags
-shifted_flags rule w a c r choice f =
+-- the flags after a shift of a by c to r: none changes by a count of 0; OF is free but for a count of 1, and a set for one of the width or more
+abbrev pub flags_by_count : FlagSet → FlagRule → Width → ℕ → ℕ → ℕ → Choice → Flags → Flags
+flags_by_count past rule w a c r choice f =
     if c == 0 then f
-    else freed_if (not (nat_lt c (bits_of w))) carry_flag choice (freed_if (not (c == 1)) overflow_flag choice (flags_after rule w a c r choice f))
+    else freed_if (not (nat_lt c (bits_of w))) past choice (freed_if (not (c == 1)) overflow_flag choice (flags_after rule w a c r choice f))
+
+-- past the width CF is free
+abbrev pub shifted_flags : FlagRule → Width → ℕ → ℕ → ℕ → Choice → Flags → Flags
+shifted_flags rule w a c r choice f = flags_by_count carry_flag rule w a c r choice f
 
 -- the operand is written for every count
 abbrev pub shift_by : Op → FlagRule → Width → Operand → ℕ → ℕ → ℕ → Choice → MachineState → Ended
@@ -42,11 +46,9 @@ joined op other w a b c = apply_op Or w (apply_op op w a c) (apply_op other w b 
 abbrev pub double_result : Op → Op → Width → ℕ → ℕ → ℕ → Choice → ℕ
 double_result op other w a b c choice = if nat_lt c (bits_of w) then joined op other w a b c else cut w choice.eax
 
--- the flags after a double shift of a by c to r: none changes by a count of 0; OF is free but for a count of 1, all six for one of the width or more
+-- past the width all six flags are free
 abbrev pub double_flags : FlagRule → Width → ℕ → ℕ → ℕ → Choice → Flags → Flags
-double_flags rule w a c r choice f =
-    if c == 0 then f
-    else freed_if (not (nat_lt c (bits_of w))) status_flags choice (freed_if (not (c == 1)) overflow_flag choice (flags_after rule w a c r choice f))
+double_flags rule w a c r choice f = flags_by_count status_flags rule w a c r choice f
 
 -- the operand is written for every count
 abbrev pub double_shift_by : FlagRule → Width → Operand → ℕ → ℕ → ℕ → ℕ → Choice → MachineState → Ended
