@@ -5,6 +5,7 @@
 
 mod arithmetic;
 mod bit_tests;
+mod double_shifts;
 mod exchanges;
 mod flag_bits;
 mod flow;

@@ -8,13 +8,14 @@ ghost use Rattle.x86_lifter.specs.Lifted.{lifted};
 
 use crate::arithmetic::{carry, combine, compare};
 use crate::bit_tests::{find_bit, test_bit};
+use crate::double_shifts::double_shift;
 use crate::exchanges::{compare_exchange, exchange_add};
 use crate::flag_bits::{change_flag, load_status, store_status};
 use crate::flow::{branch, go, loop_to, resolved};
 use crate::moves::{convert, exchange, load_address, move_if, move_value, set};
 use crate::pieces::{go_to, listed};
 use crate::products::{divide, multiply, multiply_long};
-use crate::shifts::{double_shift, shift};
+use crate::shifts::shift;
 use crate::stack::{call, leave, pop, push, return_past};
 use crate::strings::string;
 use statement_lang::{Source, Stmt, Stmts, Test};

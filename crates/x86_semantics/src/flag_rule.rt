@@ -57,8 +57,8 @@ impl FlagRule {
             FlagRule::Logic
             | FlagRule::ShiftLeft
             | FlagRule::ShiftRight
-            | FlagRule::ShiftRightSigned
-            | FlagRule::ShiftRightDouble => Flags::ADJUST,
+            | FlagRule::ShiftRightDouble
+            | FlagRule::ShiftRightSigned => Flags::ADJUST,
             FlagRule::Product | FlagRule::SignedProduct => Flags::PARITY
                 .union(Flags::ADJUST)
                 .union(Flags::ZERO)
