@@ -108,6 +108,18 @@ pub exchange-place : (place : Operand) (w : Width) (r : ℕ) → has_own_widths 
 unfolding has_own_widths
 exchange-place place w r e = e
 
+pub double_shift-place : (op other : Op) (rule : FlagRule) (w : Width) (to : Operand) (r : ℕ) (count : Operand) → has_own_widths (does.DoubleShift op other rule w to r count) ≡ true → has_place w to ≡ true
+unfolding has_own_widths
+double_shift-place op other rule w to r count e = both-left (has_place w to) (is_count count) e
+
+pub compare_exchange-place : (place : Operand) (w : Width) (r : ℕ) → has_own_widths (does.CompareExchange place w r) ≡ true → has_place w place ≡ true
+unfolding has_own_widths
+compare_exchange-place place w r e = e
+
+pub exchange_add-place : (place : Operand) (w : Width) (r : ℕ) → has_own_widths (does.ExchangeAdd place w r) ≡ true → has_place w place ≡ true
+unfolding has_own_widths
+exchange_add-place place w r e = e
+
 pub pop-place : (to : Operand) → has_own_widths (does.Pop to) ≡ true → has_place B32 to ≡ true
 unfolding has_own_widths
 pop-place to e = e

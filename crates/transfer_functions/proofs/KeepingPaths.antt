@@ -112,7 +112,7 @@ module _ {D : Type 0} (d : Values D) (l : IsLawful d) (image : Image) (blocks : 
   joined_keeps : (x y : Expanded D) → K x → K y → K (joined x y)
   joined_keeps x y h k pair held = elim (Contains-append_cases x.next y.next pair held) [ inl a ↦ h pair a | inr b ↦ k pair b ]
 
-  either_keeps : (t : Truth) (x y : Expanded D) → K x → K y → K (either_way t x y)
+  pub either_keeps : (t : Truth) (x y : Expanded D) → K x → K y → K (either_way t x y)
   either_keeps Yes x y h k = h
   either_keeps No x y h k = k
   either_keeps Unknown x y h k = joined_keeps x y h k

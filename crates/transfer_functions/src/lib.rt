@@ -5,7 +5,9 @@
 
 mod after;
 mod arithmetic;
+mod bit_tests;
 mod bits;
+mod exchanges;
 mod expand;
 mod flags;
 mod flow;
