@@ -8,14 +8,14 @@ use Rattle.bit_words.specs.declared.width.Width.{Width}
 use Rattle.bit_words.specs.declared.width.Width.TheVariants.{B8, B16, B32}
 use Rattle.bit_words.specs.Width.{bits_of, bytes_of}
 use Rattle.memory_map.specs.Image.{Image}
-use Rattle.memory_map.specs.Range.{Range, USER_END, USER_LOW, byte_at, code_at, may_write, may_write_any, may_write_each, maps_all, IsInUserSpace}
+use Rattle.memory_map.specs.Range.{Range, USER_END, USER_LOW, byte_at, may_write, may_write_any, may_write_each, maps_all, IsInUserSpace}
 use Rattle.memory_map.specs.Spans.{runs_of}
 use Rattle.memory_map.specs.State.{Flags, HasWords, MachineState, memory}
 use Rattle.memory_map.proofs.Mappings.{mapped_inside, written_mapped}
 use Rattle.memory_map.proofs.RunBytes.{IsInOne, all_from_each, all_in_range, none_in_range, run_has, run_passes}
 use Rattle.x86_semantics.specs.Memory.{word_at, stored as stored_of}
 use Rattle.x86_semantics.specs.Operands.{Ended, Next, Faulted, loading as loading_of, on_stored, on_word, storing as storing_of}
-use Rattle.x86_semantics.proofs.Storing.{IsFixedCode, IsStored, IsWordLoaded, IsWordStored, word-loaded, word-stored}
+use Rattle.x86_semantics.proofs.Storing.{IsStored, IsWordLoaded, IsWordStored, word-loaded, word-stored}
 use Rattle.address_regions.specs.declared.region.Region.{Region}
 use Rattle.address_regions.specs.declared.region.Region.TheVariants.{Stack, Fs, Gs, Block}
 use Rattle.address_regions.specs.Extents.{block_of, high_of, low_of}
@@ -53,7 +53,7 @@ use Rattle.memory_map.specs.Registers.{register}
 use Rattle.memory_map.specs.declared.registers.Regs.{Regs}
 use Rattle.abstract_state.specs.State.{AreSmall, IsWellState, Known}
 use Rattle.abstract_state.proofs.BridgeBytes.{image-bytes, number_in-is, place-later, region-bytes, written-in}
-use Rattle.abstract_state.proofs.BridgeFits.{fits-apart, fits-fixed, fits_kept, image-written, segments-inside}
+use Rattle.abstract_state.proofs.BridgeFits.{fits-apart, fits_kept, image-written, segments-inside}
 use Rattle.abstract_state.proofs.Keeping.{exact-well, inside-blocks, inside-well}
 use Rattle.abstract_state.proofs.BridgeParts.{AreKept, IsNoteOf, note-stays, note-well, spans-keep, unless-note, word-stays}
 
@@ -87,19 +87,18 @@ zone-off a count k e =
       | inr x ↦ omega (arith, k.end, ltb-true USER_END (a + count) x)
     ]
 
-module _ {D : Type 0} (d : Values D) (l : IsLawful d) (image : Image) (p : Places) (start : MachineState) (blocks : List Counted) where
+module _ {D : Type 0} (d : Values D) (l : IsLawful d) (image : Image) (p : Places) (blocks : List Counted) where
   -- a value stands for a number of a width, and the block region that it names has a count
   pub record Stands (w : Width) (v : D) (x : ℕ) : Type 0 where
     pub stands : d.stands v p x
     pub fits : x < 2 ^ bits_of w
     pub counted : HasCount blocks (named (d.reach v))
 
-  -- a path on the way through an instruction, and the machine's state there; what may be executed is as it was
+  -- a path on the way through an instruction, and the machine's state there
   pub record Holds (q : Path D) (m : MachineState) : Type 0 where
     pub well : IsWellState d q.state
     pub describes : Describes d image q.state p m
     pub blocks_same : q.state.parts.blocks ≡ blocks
-    pub code : (a : ℕ) → code_at (memory m) a ≡ code_at (memory start) a
 
   -- some next pair has the address of a machine state, and describes it
   pub record IsFound (x : Expanded D) (n : MachineState) : Type 0 where
@@ -107,7 +106,6 @@ module _ {D : Type 0} (d : Values D) (l : IsLawful d) (image : Image) (p : Place
     pub pair : Contains x.next (n.eip, state)
     pub well : IsWellState d state
     pub describes : Describes d image state p n
-    pub code : (a : ℕ) → code_at (memory n) a ≡ code_at (memory start) a
 
   -- an expansion stands for how an instruction ends: where it leaves nothing open, the next state is found
   abbrev pub Ends : Expanded D → Ended → Type 0
@@ -268,11 +266,10 @@ module _ {D : Type 0} (d : Values D) (l : IsLawful d) (image : Image) (p : Place
       }
 
   -- the state with other parts, and its note or none, after a store
-  store-holds : (q : Path D) (m n : MachineState) (count a x : ℕ) (g : PartsHeld D) (note : Option Note) (test : Note → Bool) (ws : List Written) → All IsFixedCode image.segments
-      → Holds q m → IsStored count a x m n → AreKept d image.segments image.unset p q.state.parts g (byte_in n) → IsNoteOf q.state.note test note
+  store-holds : (q : Path D) (m n : MachineState) (count a x : ℕ) (g : PartsHeld D) (note : Option Note) (test : Note → Bool) (ws : List Written) → Holds q m → IsStored count a x m n → AreKept d image.segments image.unset p q.state.parts g (byte_in n) → IsNoteOf q.state.note test note
       → ((o : ℤ) (c : ℕ) → test (Word o c) ≡ false → IsInside (interval_at (In Stack) o (pos 4)) → number_in (byte_in n) p.stack o B32 ≡ number_in (byte_in m) p.stack o B32)
       → Holds (record { state = record (q.state) { parts = g; note = note }; writes = ws }) n
-  store-holds q m n count a x g note test ws fixed h s kept is words =
+  store-holds q m n count a x g note test ws h s kept is words =
       let e = h.describes in
       record {
         well = record {
@@ -290,7 +287,6 @@ module _ {D : Type 0} (d : Values D) (l : IsLawful d) (image : Image) (p : Place
           parts = kept.described;
         };
         blocks_same = kept.blocks ∙ h.blocks_same;
-        code = λ c. s.code (fits-fixed image p m fixed e.fits) c ∙ h.code c;
       }
 
   may-hold : (q : Path D) (m : MachineState) (w : Width) (u : D) (x : ℕ) → Holds q m → Stands w u x → MayHold d q.state.parts.blocks w u
@@ -320,9 +316,9 @@ module _ {D : Type 0} (d : Values D) (l : IsLawful d) (image : Image) (p : Place
 
   -- ---- a store at one address
 
-  word-holds : (q : Path D) (m n : MachineState) (w : Width) (a x : ℕ) (u : D) → All IsFixedCode image.segments → Holds q m → IsWordStored w a x m n → IsAccess a (bytes_of w) → Stands w u x
+  word-holds : (q : Path D) (m n : MachineState) (w : Width) (a x : ℕ) (u : D) → Holds q m → IsWordStored w a x m n → IsAccess a (bytes_of w) → Stands w u x
       → maps_all image.segments a (bytes_of w) ≡ true → Holds (with_word d image a w u q) n
-  word-holds q m n w a x u fixed h s access k mapped =
+  word-holds q m n w a x u h s access k mapped =
       let at : place_at 0 (pos a) ≡ a = place_at-is 0 (pos a) a (omega (arith, ints)) (omega (arith, access.end, some-bytes w)) in
       let bytes = image-bytes image.segments a (bytes_of w) mapped in
       let write : IsWrite image.segments p Loaded 0 (bytes_in (interval_at Loaded (pos a) (pos (bytes_of w)))) (byte_in m) (byte_in n) =
@@ -332,19 +328,19 @@ module _ {D : Type 0} (d : Values D) (l : IsLawful d) (image : Image) (p : Place
         end = omega (arith, ints, access.end);
         bounded = record { least = omega (arith, ints); greatest = omega (arith, ints, access.end); ordered = omega (arith, ints) };
       } in
-      store-holds q m n (bytes_of w) a x _ q.state.note (λ t. false) _ fixed h s.is
+      store-holds q m n (bytes_of w) a x _ q.state.note (λ t. false) _ h s.is
       (exact-parts q m n Loaded 0 (pos a) w u x h (subst (λ z. IsWordStored w z x m n) (sym at) s) (subst (λ z. IsAccess z (bytes_of w)) (sym at) access) write bytes inside tt k)
       (λ t e. (e, refl))
       (λ o c _ lies. word-stays image.segments p Loaded 0 (bytes_in (interval_at Loaded (pos a) (pos (bytes_of w)))) (byte_in m) (byte_in n) write o lies (λ t same _ _ _. absurd (cc)))
 
-  goes-at : (q : Path D) (m n : MachineState) (w : Width) (a x : ℕ) (u : D) → All IsFixedCode image.segments → Holds q m → IsWordStored w a x m n → IsAccess a (bytes_of w) → Stands w u x
+  goes-at : (q : Path D) (m n : MachineState) (w : Width) (a x : ℕ) (u : D) → Holds q m → IsWordStored w a x m n → IsAccess a (bytes_of w) → Stands w u x
       → Goes (stored_at d image a w u q) n
-  goes-at q m n w a x u fixed h s access k =
+  goes-at q m n w a x u h s access k =
       elim (touches_fault_zone a (bytes_of w)) as (λ b. touches_fault_zone a (bytes_of w) ≡ b → Goes (cond b (Faults, q) (cond (maps_all image.segments a (bytes_of w)) (cond (may_write_each image.segments a (bytes_of w)) (Done, with_word d image a w u q) (Faults, q)) (Stopped causes.Store, q))) n) [
         | true ↦ λ e. zone-off a (bytes_of w) access e
         | false ↦ λ e. elim (maps_all image.segments a (bytes_of w)) as (λ b. maps_all image.segments a (bytes_of w) ≡ b → Goes (cond b (cond (may_write_each image.segments a (bytes_of w)) (Done, with_word d image a w u q) (Faults, q)) (Stopped causes.Store, q)) n) [
           | true ↦ λ f. elim (may_write_each image.segments a (bytes_of w)) as (λ b. may_write_each image.segments a (bytes_of w) ≡ b → Goes (cond b (Done, with_word d image a w u q) (Faults, q)) n) [
-            | true ↦ λ g. word-holds q m n w a x u fixed h s access k f
+            | true ↦ λ g. word-holds q m n w a x u h s access k f
             | false ↦ λ g.
                 both_ways (may_write_each image.segments a (bytes_of w)) g
                 (all_from_each (may_write image.segments) a (bytes_of w) (λ c low high.
@@ -369,14 +365,14 @@ module _ {D : Type 0} (d : Values D) (l : IsLawful d) (image : Image) (p : Place
       let passes = image-written image p m (a + i) h.describes.fits (all_in_range (λ b. is_some (byte_at image.segments b)) low size (a + i) mapped there within) (s.written i less) in
       off (run_has (may_write image.segments) low size c (omega (arith, e, there)) (omega (arith, e, within)) (subst Passes (sym e) passes))))
 
-  spans-hold : (q : Path D) (m n : MachineState) (w : Width) (a x low size : ℕ) → All IsFixedCode image.segments → Holds q m → IsWordStored w a x m n → IsAccess a (bytes_of w) → low ≤ a → a + bytes_of w ≤ low + size
+  spans-hold : (q : Path D) (m n : MachineState) (w : Width) (a x low size : ℕ) → Holds q m → IsWordStored w a x m n → IsAccess a (bytes_of w) → low ≤ a → a + bytes_of w ≤ low + size
       → maps_all image.segments low size ≡ true → Holds (with_spans (runs_of (may_write image.segments) low size) q) n
-  spans-hold q m n w a x low size fixed h s access above below mapped =
+  spans-hold q m n w a x low size h s access above below mapped =
       let at : place_at 0 (pos a) ≡ a = place_at-is 0 (pos a) a (omega (arith, ints)) (omega (arith, access.end, some-bytes w)) in
       let write : IsWrite image.segments p Loaded 0 (bytes_in (interval_at Loaded (pos low) (pos size))) (byte_in m) (byte_in n) =
       area-write q m n Loaded 0 (pos a) (pos low) (pos low +ℤ pos size) (bytes_of w) a x h s.is (sym at) access (omega (arith, ints, above)) (omega (arith, ints, below)) refl (image-bytes image.segments low size mapped) in
       let f = h.describes.fits in
-      store-holds q m n (bytes_of w) a x _ q.state.note (λ t. false) _ fixed h s.is
+      store-holds q m n (bytes_of w) a x _ q.state.note (λ t. false) _ h s.is
       (spans-keep d image.segments image.unset p (fits-apart image p m f) (segments-inside image p m f) (runs_of (may_write image.segments) low size) q.state.parts (byte_in m) (byte_in n)
       (λ c i. written_mapped image.segments c (run_passes (may_write image.segments) low size c i).passes)
       (stored-runs q m n w a x low size h s above below mapped) h.well.parts h.describes.parts)
@@ -390,15 +386,15 @@ module _ {D : Type 0} (d : Values D) (l : IsLawful d) (image : Image) (p : Place
         | inr x ↦ omega (arith, k.end, some, above, leb-true USER_END low x)
       ]
 
-  goes-among : (q : Path D) (m n : MachineState) (w : Width) (a x low size : ℕ) → All IsFixedCode image.segments → Holds q m → IsWordStored w a x m n → IsAccess a (bytes_of w) → low ≤ a → a + bytes_of w ≤ low + size
+  goes-among : (q : Path D) (m n : MachineState) (w : Width) (a x low size : ℕ) → Holds q m → IsWordStored w a x m n → IsAccess a (bytes_of w) → low ≤ a → a + bytes_of w ≤ low + size
       → Goes (stored_among d image low size q) n
-  goes-among q m n w a x low size fixed h s access above below =
+  goes-among q m n w a x low size h s access above below =
       let go = with_spans (runs_of (may_write image.segments) low size) q in
       elim (is_in_fault_zone low size) as (λ b. is_in_fault_zone low size ≡ b → Goes (cond b (Faults, q) (cond (maps_all image.segments low size) (cond (may_write_any image.segments low size) (Done, go) (Faults, q)) (Stopped causes.Store, q))) n) [
         | true ↦ λ e. zone-out a (bytes_of w) low size (some-bytes w) access above below e
         | false ↦ λ e. elim (maps_all image.segments low size) as (λ b. maps_all image.segments low size ≡ b → Goes (cond b (cond (may_write_any image.segments low size) (Done, go) (Faults, q)) (Stopped causes.Store, q)) n) [
           | true ↦ λ f. elim (may_write_any image.segments low size) as (λ b. may_write_any image.segments low size ≡ b → Goes (cond b (Done, go) (Faults, q)) n) [
-            | true ↦ λ g. spans-hold q m n w a x low size fixed h s access above below f
+            | true ↦ λ g. spans-hold q m n w a x low size h s access above below f
             | false ↦ λ g.
                 let within : a < low + size = omega (arith, below, some-bytes w) in
                 let first : may_write (memory m) a ≡ true = (let e : a + 0 ≡ a = omega arith in subst (λ z. may_write (memory m) z ≡ true) e (s.written 0 (some-bytes w))) in
@@ -466,9 +462,9 @@ module _ {D : Type 0} (d : Values D) (l : IsLawful d) (image : Image) (p : Place
             }
       ] refl
 
-  goes-in : (q : Path D) (m n : MachineState) (r : Region) (base : ℕ) (low high off : ℤ) (w : Width) (x : ℕ) (u : D) → All IsFixedCode image.segments → Holds q m → IsWordStored w (place_at base off) x m n
+  goes-in : (q : Path D) (m n : MachineState) (r : Region) (base : ℕ) (low high off : ℤ) (w : Width) (x : ℕ) (u : D) → Holds q m → IsWordStored w (place_at base off) x m n
       → IsAccess (place_at base off) (bytes_of w) → HasBase p r base → HasCount blocks (block_of r) → low ≤ℤ off → off ≤ℤ high → Stands w u x → Goes (stored_in d image r low high w u q) n
-  goes-in q m n r base low high off w x u fixed h s access based counted above below k =
+  goes-in q m n r base low high off w x u h s access based counted above below k =
       let end = high +ℤ pos (bytes_of w) in
       elim (lies_in_extent r low end) as (λ b. lies_in_extent r low end ≡ b → Goes (cond b (Done, with_region_parts r low end (region_parts d image r low high w u q.state.parts) q) (Stopped (cause_outside r), q)) n) [
         | true ↦ λ e.
@@ -477,25 +473,25 @@ module _ {D : Type 0} (d : Values D) (l : IsLawful d) (image : Image) (p : Place
             let greatest = int_le-true end (high_of r) parts.1 in
             let write : IsWrite image.segments p (In r) base (bytes_in (interval_between (In r) low end)) (byte_in m) (byte_in n) =
             area-write q m n (In r) base off low end (bytes_of w) (place_at base off) x h s.is refl access above (omega (arith, ints, below)) based (region-bytes image.segments r low end least greatest) in
-            store-holds q m n (bytes_of w) (place_at base off) x _ (note_unless (is_in_bytes (In r) low end) q.state.note) (is_in_bytes (In r) low end) _ fixed h s.is
+            store-holds q m n (bytes_of w) (place_at base off) x _ (note_unless (is_in_bytes (In r) low end) q.state.note) (is_in_bytes (In r) low end) _ h s.is
             (region-kept q m n r base low high off w x u h s access based counted above below least greatest k)
             (unless-note (is_in_bytes (In r) low end) q.state.note)
             (λ o c fails lies. word-stays image.segments p (In r) base (bytes_in (interval_between (In r) low end)) (byte_in m) (byte_in n) write o lies (λ t same high' low' passes. region-word r low end o t c fails same high' low' passes))
         | false ↦ λ e. tt
       ] refl
 
-  goes-by : (q : Path D) (m n : MachineState) (reach : Reach) (w : Width) (a x : ℕ) (u : D) → All IsFixedCode image.segments → Holds q m → IsWordStored w a x m n → IsAccess a (bytes_of w) → Stands w u x
+  goes-by : (q : Path D) (m n : MachineState) (reach : Reach) (w : Width) (a x : ℕ) (u : D) → Holds q m → IsWordStored w a x m n → IsAccess a (bytes_of w) → Stands w u x
       → IsReached reach p a → HasCount blocks (named reach) → Goes (stored_by d image reach w u q) n
-  goes-by q m n (Number low high) w a x u fixed h s access k reached counted =
+  goes-by q m n (Number low high) w a x u h s access k reached counted =
       elim (low == high) as (λ b. (low == high) ≡ b → Goes (cond b (stored_at d image low w u q) (stored_among d image low ((high + bytes_of w) - low) q)) n) [
         | true ↦ λ e.
             let same : a ≡ low = omega (arith, eqb-true low high e, reached.0, reached.1) in
-            goes-at q m n w low x u fixed h (subst (λ z. IsWordStored w z x m n) same s) (subst (λ z. IsAccess z (bytes_of w)) same access) k
-        | false ↦ λ e. goes-among q m n w a x low ((high + bytes_of w) - low) fixed h s access reached.0 (omega (arith, reached.0, reached.1))
+            goes-at q m n w low x u h (subst (λ z. IsWordStored w z x m n) same s) (subst (λ z. IsAccess z (bytes_of w)) same access) k
+        | false ↦ λ e. goes-among q m n w a x low ((high + bytes_of w) - low) h s access reached.0 (omega (arith, reached.0, reached.1))
       ] refl
-  goes-by q m n (Place r low high) w a x u fixed h s access k reached counted =
-      goes-in q m n r reached.base low high reached.offset w x u fixed h (subst (λ z. IsWordStored w z x m n) reached.is s) (subst (λ z. IsAccess z (bytes_of w)) reached.is access) reached.has_base counted reached.from_low reached.to_high k
-  goes-by q m n Anywhere w a x u fixed h s access k reached counted = tt
+  goes-by q m n (Place r low high) w a x u h s access k reached counted =
+      goes-in q m n r reached.base low high reached.offset w x u h (subst (λ z. IsWordStored w z x m n) reached.is s) (subst (λ z. IsAccess z (bytes_of w)) reached.is access) reached.has_base counted reached.from_low reached.to_high k
+  goes-by q m n Anywhere w a x u h s access k reached counted = tt
 
   -- the machine's state after a store is that before it but for memory
   pub record IsAfterStore (m n : MachineState) : Type 0 where
@@ -511,10 +507,10 @@ module _ {D : Type 0} (d : Values D) (l : IsLawful d) (image : Image) (p : Place
   goes-end (Stopped c, r) n k go h then = stopped_ends c r.writes (go n)
 
   -- a store of a path stands for that of the machine
-  pub storing_ends : (q : Path D) (m : MachineState) (w : Width) (v u : D) (a x : ℕ) (k : Path D → Expanded D) (go : MachineState → Ended) → All IsFixedCode image.segments → Holds q m → Stands B32 v a → Stands w u x
+  pub storing_ends : (q : Path D) (m : MachineState) (w : Width) (v u : D) (a x : ℕ) (k : Path D → Expanded D) (go : MachineState → Ended) → Holds q m → Stands B32 v a → Stands w u x
       → ((r : Path D) (n : MachineState) → Holds r n → IsAfterStore m n → Ends (k r) (go n)) → Ends (storing d image q w v u k) (storing_of m w a x go)
   unfolding stored
-  storing_ends q m w v u a x k go fixed h address value then =
+  storing_ends q m w v u a x k go h address value then =
       let f = h.describes.fits in
       elim (stored_of w a x m) as (λ o. stored_of w a x m ≡ o → Ends (storing d image q w v u k) (on_stored m o go)) [
         | None ↦ λ e. tt
@@ -522,6 +518,6 @@ module _ {D : Type 0} (d : Values D) (l : IsLawful d) (image : Image) (p : Place
             let word = word-stored w a x m n f.inside f.apart e in
             let access = access-is (memory m) (bytes_of w) a (some-bytes w) f.inside (λ i less. written_mapped (memory m) (a + i) (word.written i less)) in
             let s = word.is in
-            goes-end (stored_by d image (d.reach v) w u q) n k go (goes-by q m n (d.reach v) w a x u fixed h word access value (l.reach_holds v p a f.valid address.stands) address.counted)
+            goes-end (stored_by d image (d.reach v) w u q) n k go (goes-by q m n (d.reach v) w a x u h word access value (l.reach_holds v p a f.valid address.stands) address.counted)
             (λ r holds. then r n holds (record { registers = s.registers; eip = s.eip; flags = s.flags; fs = s.fs; gs = s.gs }))
       ] refl

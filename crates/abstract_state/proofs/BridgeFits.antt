@@ -11,7 +11,6 @@ use Rattle.memory_map.specs.Range.{Mapping, Range, mapping_of, byte_at, has, may
 use Rattle.memory_map.specs.State.{MachineState, memory}
 use Rattle.memory_map.proofs.Lists.{byte_at-none, byte_at-there}
 use Rattle.memory_map.proofs.Mappings.{apart_mapped, inside_mapped, is_mapped, is_written, lies_at, only_mapping, writes_at}
-use Rattle.x86_semantics.proofs.Storing.{IsFixedCode}
 use Rattle.address_regions.specs.declared.region.Region.TheVariants.{Stack}
 use Rattle.address_regions.specs.Places.{Places}
 use Rattle.partitioned_memory.specs.Describes.{IsApart}
@@ -90,13 +89,3 @@ segments-inside image p m f =
 
 pub fits-apart : (image : Image) (p : Places) (m : MachineState) → Fits image p m → IsApart image.segments p
 fits-apart image p m f = spread-apart image.segments p f.valid (segments-inside image p m f) f.spread
-
--- where no segment may be both written and executed, no range of memory may
-pub fits-fixed : (image : Image) (p : Places) (m : MachineState) → All IsFixedCode image.segments → Fits image p m → All IsFixedCode (memory m)
-fits-fixed image p m fixed f k e l x =
-    let r = get_or (memory m) k e in
-    let l' : k < length (mappings m) = omega (arith, l, length-map (memory m) mapping_of) in
-    let at : get_or (mappings m) k (mapping_of e) ≡ mapping_of r = get_or-map mapping_of (memory m) k e (mapping_of e) l in
-    let held : Contains (map mapping_of image.segments) (mapping_of r) =
-    subst (λ y. y.execute ≡ true → Contains (map mapping_of image.segments) y) at (f.code k (mapping_of e) l') x in
-    mapped-as IsFixedCode image.segments r (λ a b q h y. sym (ap (λ (k : Mapping). k.write) q) ∙ h (ap (λ (k : Mapping). k.execute) q ∙ y)) held fixed x

@@ -37,10 +37,6 @@ pub record IsMappedAt (mappings : List Mapping) (r : Region) (b : ℕ) : Type 0 
 abbrev pub mappings : MachineState → List Mapping
 mappings m = map mapping_of (memory m)
 
--- what may be executed may not be written
-abbrev pub IsFixed : List Range → Type 0
-IsFixed ranges = All (λ r. r.execute ≡ true → r.write ≡ false) ranges
-
 -- the places of a run are those of a machine state: its windows and blocks lie there, and apart from the segments, which are mapped with their permissions
 pub record Fits (image : Image) (p : Places) (m : MachineState) : Type 0 where
   pub valid : IsValid p

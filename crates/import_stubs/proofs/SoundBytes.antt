@@ -5,17 +5,13 @@ use Rattle.std.specs.List.{list_all, list_any}
 use Rattle.std.proofs.lemmas.Bool.{and_from, and_parts, both_ways, cases_Bool, cases_eq, or_left}
 use Rattle.bit_words.specs.declared.width.Width.TheVariants.{B8}
 use Rattle.bit_words.specs.Width.{cut}
-use Rattle.memory_map.specs.Range.{Range, Mapping, mapping_of, byte_at, code_at, has, may_write, AreApart, HasBytes, IsInUserSpace}
+use Rattle.memory_map.specs.Range.{Range, Mapping, mapping_of, byte_at, has, may_write, AreApart, HasBytes, IsInUserSpace}
 use Rattle.memory_map.specs.State.{MachineState, memory}
 use Rattle.memory_map.proofs.Lists.{byte_at-here, byte_at-there}
-use Rattle.memory_map.proofs.Mappings.{All-mapped, apart_mapped, is_mapped, lies_at, mapped_inside, written_mapped, written_same}
+use Rattle.memory_map.proofs.Mappings.{apart_mapped, is_mapped, lies_at, mapped_inside, written_mapped, written_same}
 use Rattle.x86_semantics.specs.Memory.{may_write_all, next_byte, with_byte}
-use Rattle.x86_semantics.proofs.Storing.{IsFixedCode, byte-other, byte-same, byte_of, code-same, put-mapping, puts-bytes, puts-mapping}
+use Rattle.x86_semantics.proofs.Storing.{byte-other, byte-same, byte_of, put-mapping, puts-bytes, puts-mapping}
 use Rattle.import_semantics.specs.StubDoes.{with_bytes}
-
-fixed-mapped : (rs ss : List Range) → map mapping_of rs ≡ map mapping_of ss → All IsFixedCode rs → All IsFixedCode ss
-fixed-mapped rs ss e h =
-    All-mapped IsFixedCode (λ r s q f x. sym (ap (λ (k : Mapping). k.write) q) ∙ f (ap (λ (k : Mapping). k.execute) q ∙ x)) rs ss e h
 
 -- ---- bytes filled in
 
@@ -27,13 +23,12 @@ pub record IsFilled (m n : MachineState) : Type 0 where
   pub stack : mapping_of n.stack ≡ mapping_of m.stack
   pub mappings : map mapping_of (memory n) ≡ map mapping_of (memory m)
   pub bytes : All HasBytes (memory m) → All HasBytes (memory n)
-  pub code : All IsFixedCode (memory m) → (c : ℕ) → code_at (memory n) c ≡ code_at (memory m) c
 
 byte-cut : (n : ℕ) → cut B8 n < 256
 byte-cut n = omega arith
 
 pub filled-is : (filled : List (ℕ × ℕ)) (m : MachineState) → IsFilled m (with_bytes filled m)
-filled-is [] m = record { registers = refl; fs = refl; gs = refl; stack = refl; mappings = refl; bytes = λ h. h; code = λ h c. refl }
+filled-is [] m = record { registers = refl; fs = refl; gs = refl; stack = refl; mappings = refl; bytes = λ h. h }
 filled-is (b ∷ bs) m =
     let next = with_byte b.0 (cut B8 b.1) m in
     let same : map mapping_of (memory next) ≡ map mapping_of (memory m) = puts-mapping b.0 (cut B8 b.1) (memory m) in
@@ -45,7 +40,6 @@ filled-is (b ∷ bs) m =
       stack = rest.stack ∙ put-mapping b.0 (cut B8 b.1) m.stack;
       mappings = rest.mappings ∙ same;
       bytes = λ h. rest.bytes (puts-bytes b.0 (cut B8 b.1) (byte-cut b.1) (memory m) h);
-      code = λ h c. rest.code (fixed-mapped (memory m) (memory next) (sym same) h) c ∙ code-same b.0 (cut B8 b.1) (memory m) c h;
     }
 
 -- a byte at an address at which none may be filled in stays
@@ -102,19 +96,6 @@ pub zero-bytes : (n k : ℕ) → unwrap_or (slice_get (replicate n zero) k) zero
 zero-bytes zero k = refl
 zero-bytes (suc n) zero = refl
 zero-bytes (suc n) (suc k) = zero-bytes n k
-
--- one more range that may not be executed
-more-code : (rs : List Range) (r : Range) → r.execute ≡ false → filter (λ x. x.execute) (rs ++ r ∷ []) ≡ filter (λ x. x.execute) rs
-more-code [] r plain = ap (λ b. cond b (r ∷ []) []) plain
-more-code (x ∷ xs) r plain =
-    elim x.execute as (λ b. cond b (x ∷ filter (λ y. y.execute) (xs ++ r ∷ [])) (filter (λ y. y.execute) (xs ++ r ∷ [])) ≡ cond b (x ∷ filter (λ y. y.execute) xs) (filter (λ y. y.execute) xs)) [
-      | true ↦ ap (λ ys. x ∷ ys) (more-code xs r plain)
-      | false ↦ more-code xs r plain
-    ]
-
-pub more-code_at : (rs : List Range) (r : Range) (c : ℕ) → r.execute ≡ false → code_at (rs ++ r ∷ []) c ≡ code_at rs c
-unfolding code_at
-more-code_at rs r c plain = ap (λ xs. byte_at xs c) (more-code rs r plain)
 
 -- ---- a word
 

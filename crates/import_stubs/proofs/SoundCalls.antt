@@ -11,7 +11,7 @@ use Rattle.bit_words.specs.Width.{cut}
 use Rattle.memory_map.specs.declared.choice.Choice.{Choice}
 use Rattle.memory_map.specs.declared.registers.Regs.{Regs}
 use Rattle.memory_map.specs.Image.{EXIT_PLACE, Image}
-use Rattle.memory_map.specs.Range.{IsInUserSpace, Range, USER_END, code_at, end_of, has, may_write}
+use Rattle.memory_map.specs.Range.{IsInUserSpace, Range, USER_END, end_of, has, may_write}
 use Rattle.memory_map.specs.Registers.{register}
 use Rattle.memory_map.specs.State.{MachineState, memory}
 use Rattle.memory_map.proofs.Mappings.{is_in, written_same}
@@ -40,19 +40,19 @@ use Rattle.stub_file.specs.declared.stub.Stub.{Stub}
 use Rattle.x86_semantics.specs.Memory.{with_number}
 use Rattle.x86_semantics.proofs.Storing.{IsStored, low-bytes, number_from, stored-is}
 use Rattle.abstract_state.specs.declared.truth.Truth.TheVariants.{No}
-use Rattle.abstract_state.specs.Describes.{Describes, Fits, IsFixed, byte_in, mappings}
+use Rattle.abstract_state.specs.Describes.{Describes, Fits, byte_in, mappings}
 use Rattle.abstract_state.specs.Expanding.{Expanded, Path}
 use Rattle.abstract_state.specs.Flags.{unknown_flags}
 use Rattle.abstract_state.specs.State.{IsWellState, Known}
 use Rattle.abstract_state.proofs.BridgeBytes.{extent-from, number_in-is, place-later, region-bytes, written-in}
-use Rattle.abstract_state.proofs.BridgeFits.{fits-apart, fits-fixed, fits_kept}
+use Rattle.abstract_state.proofs.BridgeFits.{fits-apart, fits_kept}
 use Rattle.import_semantics.specs.StubDoes.{LARGEST_BLOCK, argument, block_of, filled_in, frame_size, fresh_block, is_zeroed, result_of, return_address, stack_after, target_of, with_block}
 use Rattle.import_stubs.specs.Stub.{return_value, stack_offset}
 use Rattle.import_stubs.proofs.SoundBytes.{filled-is, writes-all}
 use Rattle.import_stubs.proofs.SoundFrame.{IsFrame, stack_word-fits, word-stands}
 use Rattle.import_stubs.proofs.SoundPlaces.{MayLie, fits-gained, gained, gains, keeps-bases, spread, valid}
 use Rattle.import_stubs.proofs.SoundWrites.{IsAt}
-use Rattle.import_stubs.proofs.SoundMemory.{Facts, GoodBlock, after_by, after_writes, area-mapped, before-fits, filled, filled-code, filled-fits, filled-fs, filled-gs, good, lies_in, mapped-off, rest-stays, without, zeroed-zero}
+use Rattle.import_stubs.proofs.SoundMemory.{Facts, GoodBlock, after_by, after_writes, area-mapped, before-fits, filled, filled-fits, filled-fs, filled-gs, good, lies_in, mapped-off, rest-stays, without, zeroed-zero}
 
 -- ---- the offset of the stack pointer
 
@@ -96,14 +96,13 @@ pub no-causes : {X : Type 0} (c : X) (cs : List X) → c ∷ cs ≡ [] → ⊥
 no-causes c cs e = cc
 
 module _ {D : Type 0} (d : Values D) (l : IsLawful d) (image : Image) (p : Places) (o : ℤ) (s : Known D) (m : MachineState) (inside : All IsInUserSpace image.segments)
-    (well : IsWellState d s) (describes : Describes d image s p m) (stub : Stub) (r : Reply) (choice : Choice) (fixed : IsFixed image.segments) (facts : Facts stub r choice m) (frame : IsFrame p o m (frame_size stub)) where
+    (well : IsWellState d s) (describes : Describes d image s p m) (stub : Stub) (r : Reply) (choice : Choice) (facts : Facts stub r choice m) (frame : IsFrame p o m (frame_size stub)) where
   -- some next pair has the address of a state, and describes it by some places; the executable bytes are as they were
   pub record IsFound (x : Expanded D) (next : MachineState) : Type 0 where
     pub state : Known D
     pub places : Places
     pub pair : Contains x.next (next.eip, state)
     pub told : Describes d image state places next
-    pub code : (a : ℕ) → code_at (memory next) a ≡ code_at (memory m) a
 
   abbrev end : ℤ
   end = o +ℤ pos (frame_size stub)
@@ -115,10 +114,10 @@ module _ {D : Type 0} (d : Values D) (l : IsLawful d) (image : Image) (p : Place
   At q c = IsAt d l image p o s m inside well describes frame.sum q c
 
   abbrev bytes : MachineState
-  bytes = filled image p stub r choice m fixed f facts
+  bytes = filled image p stub r choice m f facts
 
   abbrev g : ℕ → ℕ
-  g = without image p stub r choice m fixed f facts
+  g = without image p stub r choice m f facts
 
   abbrev block : Option Range
   block = block_of r choice m
@@ -140,7 +139,6 @@ module _ {D : Type 0} (d : Values D) (l : IsLawful d) (image : Image) (p : Place
     pub fits : Fits image q n
     pub fs : n.fs ≡ m.fs
     pub gs : n.gs ≡ m.gs
-    pub code : (c : ℕ) → code_at (memory n) c ≡ code_at (memory m) c
     pub moves : Moves q
     pub value : d.stands v q (result_of r choice)
     pub result : result_of r choice < 2 ^ 32
@@ -191,17 +189,16 @@ module _ {D : Type 0} (d : Values D) (l : IsLawful d) (image : Image) (p : Place
           note = tt;
           parts = k.parts;
         };
-        code = k.code;
       }
 
   -- ---- the memory that is left, but for a block
 
   -- parts after forgetting describe it
-  pub left : (q : Path D) → At q (after_writes image p stub r choice m fixed f facts) → IsDescribed d image.segments image.unset p (after_forgetting end q.state.parts) g
-  left q h = forget-keeps d image.segments image.unset p _ g q.state.parts end (fits-apart image p m f) (rest-stays image p stub r choice m fixed f facts o frame) h.described
+  pub left : (q : Path D) → At q (after_writes image p stub r choice m f facts) → IsDescribed d image.segments image.unset p (after_forgetting end q.state.parts) g
+  left q h = forget-keeps d image.segments image.unset p _ g q.state.parts end (fits-apart image p m f) (rest-stays image p stub r choice m f facts o frame) h.described
 
   own-fits : Fits image p bytes
-  own-fits = filled-fits image p stub r choice m fixed f facts p (before-fits image p stub r choice m fixed f facts)
+  own-fits = filled-fits image p stub r choice m f facts p (before-fits image p stub r choice m f facts)
 
   -- where there is no block, that is all
   pub whole : block ≡ None → (h : PartsHeld D) → IsDescribed d image.segments image.unset p h g → IsDescribed d image.segments image.unset p h (byte_in bytes)
@@ -210,7 +207,7 @@ module _ {D : Type 0} (d : Values D) (l : IsLawful d) (image : Image) (p : Place
   -- a block lies beside every area
   pub beside : (h : PartsHeld D) → IsDescribed d image.segments image.unset p h g → IsDescribed d image.segments image.unset p h (byte_in bytes)
   beside h k = beside-keeps d image.segments image.unset p g (byte_in bytes) h (λ a base i starts byte.
-      let off : lies_in block (place_at base i) ≡ false = mapped-off m block (place_at base i) (good image p stub r choice m fixed f facts) (area-mapped image p m a base i f starts byte) in
+      let off : lies_in block (place_at base i) ≡ false = mapped-off m block (place_at base i) (good image p stub r choice m f facts) (area-mapped image p m a base i f starts byte) in
       sym (ap (λ b. cond b (byte_in m (place_at base i)) (byte_in bytes (place_at base i))) off)) k
 
   esp-at : place_at p.stack o ≡ m.registers.esp
@@ -261,9 +258,8 @@ module _ {D : Type 0} (d : Values D) (l : IsLawful d) (image : Image) (p : Place
   plain-found site rs h v x held is back same value less parts =
       found-next p bytes rs h v top site x held (back.target ∙ is) (target-less (return_address m) back.target address-fits) same (record {
         fits = own-fits;
-        fs = filled-fs image p stub r choice m fixed f facts;
-        gs = filled-gs image p stub r choice m fixed f facts;
-        code = filled-code image p stub r choice m fixed f facts;
+        fs = filled-fs image p stub r choice m f facts;
+        gs = filled-gs image p stub r choice m f facts;
         moves = λ u y counted k. k;
         value = value;
         result = less;
@@ -292,7 +288,7 @@ module _ {D : Type 0} (d : Values D) (l : IsLawful d) (image : Image) (p : Place
     new = fresh_block base size
 
     lies : MayLie m new
-    lies = (let k : GoodBlock m (Some new) = subst (GoodBlock m) is (good image p stub r choice m fixed f facts) in k.0)
+    lies = (let k : GoodBlock m (Some new) = subst (GoodBlock m) is (good image p stub r choice m f facts) in k.0)
 
     end-at : end_of new ≡ base + size
     end-at = ap (λ n. base + n) (length-replicate size zero)
@@ -301,7 +297,7 @@ module _ {D : Type 0} (d : Values D) (l : IsLawful d) (image : Image) (p : Place
     small = (let k = lies.size in let e = end-at in omega (arith, k, e))
 
     fresh-fits : Fits image Q bytes
-    fresh-fits = filled-fits image p stub r choice m fixed f facts Q (subst (λ (b : Option Range). Fits image Q (with_block b m)) (sym is) (fits-gained site size zeroed had base p image m lies f))
+    fresh-fits = filled-fits image p stub r choice m f facts Q (subst (λ (b : Option Range). Fits image Q (with_block b m)) (sym is) (fits-gained site size zeroed had base p image m lies f))
 
     has-base : HasBase Q R base
     has-base = ((gains site size zeroed had base p).own base).1 (inl refl)
@@ -332,7 +328,7 @@ module _ {D : Type 0} (d : Values D) (l : IsLawful d) (image : Image) (p : Place
           let last = end-at in
           let c = place_at base i in
           let there : has c new ≡ true = and_from (nat_le base c) (nat_lt c (end_of new)) (le-leb base c (omega (arith, ints, at, from))) (lt-ltb c (end_of new) (omega (arith, ints, at, to, last))) in
-          zeroed-zero image p stub r choice m fixed f facts new c is size refl refl (kind ∙ e) there;
+          zeroed-zero image p stub r choice m f facts new c is size refl refl (kind ∙ e) there;
     }
 
     pub block-found : (rs : Regs D) (x : Expanded D) → Contains x.next (site, state_of rs (after_block R h) (d.place R (pos 0)) top) → return_address m ≡ site → IsReturn → rs ≡ s.regs → result_of r choice ≡ base → IsFound x (after_by stub r choice m bytes)
@@ -342,9 +338,8 @@ module _ {D : Type 0} (d : Values D) (l : IsLawful d) (image : Image) (p : Place
         let at : place_at base (pos 0) ≡ result_of r choice = place_at-is base (pos 0) base (omega (arith, ints)) less ∙ sym result in
         found-next Q bytes rs (after_block R h) (d.place R (pos 0)) top site x held (back.target ∙ to) (target-less (return_address m) back.target address-fits) same (record {
           fits = fresh-fits;
-          fs = filled-fs image p stub r choice m fixed f facts;
-          gs = filled-gs image p stub r choice m fixed f facts;
-          code = filled-code image p stub r choice m fixed f facts;
+          fs = filled-fs image p stub r choice m f facts;
+          gs = filled-gs image p stub r choice m f facts;
           moves = λ u y counted k. l.moves u p Q y f.valid valid-now (gains site size zeroed had base p).windows (keeps-bases site size zeroed had base p s.parts.blocks (named (d.reach u)) (ap (is_counted R) blocks) counted) k;
           value = subst (d.stands (d.place R (pos 0)) Q) at (l.place_stands R (pos 0) base Q valid-now has-base);
           result = target-result (result_of r choice) result less;
@@ -422,9 +417,8 @@ module _ {D : Type 0} (d : Values D) (l : IsLawful d) (image : Image) (p : Place
         let pointer : exit_at < 2 ^ 32 = (let less = exit-less in omega (arith, less)) in
         found-next p entered rs (after_exact d (In Stack) below B32 (d.number EXIT_PLACE) h) d.any below a x held (entry.target ∙ is) (target-less (argument i m) entry.target (stack_word-fits (4 + 4 * i) m f.inside f.bytes)) same (record {
           fits = fits-now;
-          fs = stored.fs ∙ filled-fs image p stub r choice m fixed f facts;
-          gs = stored.gs ∙ filled-gs image p stub r choice m fixed f facts;
-          code = λ c. stored.code (fits-fixed image p bytes fixed own-fits) c ∙ filled-code image p stub r choice m fixed f facts c;
+          fs = stored.fs ∙ filled-fs image p stub r choice m f facts;
+          gs = stored.gs ∙ filled-gs image p stub r choice m f facts;
           moves = λ u y counted z. z;
           value = l.any_stands p (result_of r choice) f.valid;
           result = entry.result;

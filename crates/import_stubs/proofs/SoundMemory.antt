@@ -14,7 +14,7 @@ use Rattle.memory_map.specs.declared.fault.BadKind.{BadKind}
 use Rattle.memory_map.specs.declared.fault.FaultKind.{FaultKind}
 use Rattle.memory_map.specs.declared.span.Span.{Span}
 use Rattle.memory_map.specs.Image.{Image}
-use Rattle.memory_map.specs.Range.{AreApart, HasBytes, Mapping, Range, byte_at, code_at, end_of, has, mapping_of, may_write}
+use Rattle.memory_map.specs.Range.{AreApart, HasBytes, Mapping, Range, byte_at, end_of, has, mapping_of, may_write}
 use Rattle.memory_map.specs.Spans.{is_in_span}
 use Rattle.memory_map.specs.State.{MachineState, memory}
 use Rattle.memory_map.proofs.Mappings.{apart_not_in, is_mapped, is_written, lies_at, mapped_inside, writes_at, written_mapped}
@@ -32,12 +32,12 @@ use Rattle.stub_file.specs.declared.stub.Reply.{Reply}
 use Rattle.stub_file.specs.declared.stub.Reply.TheVariants as reply
 use Rattle.stub_file.specs.declared.stub.Stub.{Stub}
 use Rattle.x86_semantics.proofs.Storing.{byte_of}
-use Rattle.abstract_state.specs.Describes.{Fits, IsFixed, byte_in, mappings}
+use Rattle.abstract_state.specs.Describes.{Fits, byte_in, mappings}
 use Rattle.abstract_state.proofs.BridgeAny.{in_span-is}
 use Rattle.abstract_state.proofs.BridgeBytes.{extent-from}
-use Rattle.abstract_state.proofs.BridgeFits.{fits-fixed, fits_kept, image-mapped}
+use Rattle.abstract_state.proofs.BridgeFits.{fits_kept, image-mapped}
 use Rattle.import_semantics.specs.StubDoes.{Returned, block_of, end_by, exit_spans, filled_in, flags_after, frame_size, has_frame, is_allowed, is_zeroed, lacks_block, may_fail, may_hold, may_write_span, result_of, spans_of, stack_after, stub_does, target_of, with_block, with_bytes, with_exit}
-use Rattle.import_stubs.proofs.SoundBytes.{filled-is, filled-others, filled-zero, more-byte, more-code_at, own-byte, zero-bytes}
+use Rattle.import_stubs.proofs.SoundBytes.{filled-is, filled-others, filled-zero, more-byte, own-byte, zero-bytes}
 use Rattle.import_stubs.proofs.SoundFrame.{IsFrame}
 use Rattle.import_stubs.proofs.SoundPlaces.{MayLie, fits-more, may_lie-is}
 
@@ -153,10 +153,6 @@ block-fits : (image : Image) (p : Places) (m : MachineState) (b : Option Range) 
 block-fits image p m None g f = f
 block-fits image p m (Some x) g f = fits-more image p m x g.0 g.1 g.2 f
 
-block-code : (m : MachineState) (b : Option Range) (c : ℕ) → GoodBlock m b → code_at (memory (with_block b m)) c ≡ code_at (memory m) c
-block-code m None c g = refl
-block-code m (Some x) c g = more-code_at (memory m) x c g.1
-
 block-byte : (m : MachineState) (b : Option Range) (c : ℕ) → lies_in b c ≡ false → byte_at (memory (with_block b m)) c ≡ byte_at (memory m) c
 block-byte m None c off = refl
 block-byte m (Some x) c off = more-byte (memory m) x c off
@@ -204,7 +200,7 @@ area-mapped image p m (In r) base i f starts e =
     (le-leb k.mapping.low a (omega (arith, ints, at, from, low))) (lt-ltb a (k.mapping.low + k.mapping.size) (omega (arith, ints, at, to, low, size))) in
     is_mapped (memory m) a ∙ list_any_at (lies_at a) (mappings m) k.there.0 k.mapping k.there.1 (ap (lies_at a) k.there.2 ∙ lies)
 
-module _ (image : Image) (p : Places) (stub : Stub) (r : Reply) (choice : Choice) (m : MachineState) (fixed : IsFixed image.segments) (f : Fits image p m) (h : Facts stub r choice m) where
+module _ (image : Image) (p : Places) (stub : Stub) (r : Reply) (choice : Choice) (m : MachineState) (f : Fits image p m) (h : Facts stub r choice m) where
   abbrev block : Option Range
   block = block_of r choice m
 
@@ -222,9 +218,6 @@ module _ (image : Image) (p : Places) (stub : Stub) (r : Reply) (choice : Choice
 
   pub filled-fits : (q : Places) → Fits image q before → Fits image q filled
   filled-fits q g = (let k = filled-is (filled_in choice) before in fits_kept image q before filled (record { mapped = k.mappings; stack = k.stack; fs = k.fs; gs = k.gs }) (k.bytes g.bytes) g)
-
-  pub filled-code : (c : ℕ) → code_at (memory filled) c ≡ code_at (memory m) c
-  filled-code c = (filled-is (filled_in choice) before).code (fits-fixed image p before fixed before-fits) c ∙ block-code m block c good
 
   pub filled-registers : filled.registers ≡ m.registers
   filled-registers = (filled-is (filled_in choice) before).registers ∙ block-registers m block

@@ -11,7 +11,7 @@ use Rattle.stub_file.specs.declared.stub.Reply.TheVariants as reply
 use Rattle.stub_file.specs.declared.stub.Stub.{Stub}
 use Rattle.stub_file.specs.Stubs.{StatedStubs, stub_named}
 use Rattle.import_semantics.specs.StubDoes.{Returned, stub_does}
-use Rattle.abstract_state.specs.Describes.{Describes, IsFixed}
+use Rattle.abstract_state.specs.Describes.{Describes}
 use Rattle.abstract_state.specs.Expanding.{Expanded}
 use Rattle.abstract_state.specs.State.{IsWellState, Known}
 use Rattle.import_stubs.specs.Laws.{IsFoundByPlaces}
@@ -28,11 +28,11 @@ module _ {D : Type 0} (d : Values D) (l : IsLawful d) (image : Image) where
 
   -- an import with a stub: whatever it does is described by one of the next pairs, unless a cause leaves its place open
   pub stub-is_sound : (stubs : StatedStubs) (name : List ℕ) (stub : Stub) (choice : Choice) (s : Known D) (p : Places) (m next : MachineState)
-      → IsLoaded image → IsFixed image.segments → IsWellState d s → Describes d image s p m → stub_named name stubs ≡ Some stub → stub.reply ≢ reply.Never → stub_does stub choice m ≡ Returned next
-      → (expand_stub d image stubs name s).causes ≡ [] → IsFoundByPlaces d image (expand_stub d image stubs name s) m next
+      → IsLoaded image → IsWellState d s → Describes d image s p m → stub_named name stubs ≡ Some stub → stub.reply ≢ reply.Never → stub_does stub choice m ≡ Returned next
+      → (expand_stub d image stubs name s).causes ≡ [] → IsFoundByPlaces d image (expand_stub d image stubs name s) next
   unfolding expand_stub
-  stub-is_sound stubs name stub choice s p m next loaded fixed well describes named some does none =
+  stub-is_sound stubs name stub choice s p m next loaded well describes named some does none =
       let same : expand_stub d image stubs name s ≡ calls d image stub (stack_offset (d.reach s.regs.esp)) s =
       ap (λ o. expand_import d image o s) named ∙ called stub stub.reply s some in
-      subst (λ (x : Expanded D). IsFoundByPlaces d image x m next) (sym same)
-      (call-is_sound d l image stub choice s p m next loaded fixed well describes some does (subst (λ (x : Expanded D). x.causes ≡ []) same none))
+      subst (λ (x : Expanded D). IsFoundByPlaces d image x next) (sym same)
+      (call-is_sound d l image stub choice s p m next loaded well describes some does (subst (λ (x : Expanded D). x.causes ≡ []) same none))

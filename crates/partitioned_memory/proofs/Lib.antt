@@ -7,3 +7,4 @@ pub mod CallsKept
 pub mod BlockKept
 pub mod Spread
 pub mod Holding
+pub mod KnownBytes

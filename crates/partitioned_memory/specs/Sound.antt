@@ -1,5 +1,5 @@
 -- The calls are right about memory: what a description leads to.
-use Rattle.std.specs.Prelude.{◌≡◌, ℕ, true, false, List, ℤ, pos, All}
+use Rattle.std.specs.Prelude.{◌≡◌, ℕ, ◌^◌, ◌<◌, true, false, List, Some, ℤ, pos, All}
 use Rattle.bit_words.specs.declared.width.Width.{Width}
 use Rattle.bit_words.specs.Width.{bytes_of}
 use Rattle.memory_map.specs.declared.span.Span.{Span}
@@ -11,6 +11,7 @@ use Rattle.domain_laws.specs.Laws.{Values}
 use Rattle.partitioned_memory.specs.declared.area.Area.{Area}
 use Rattle.partitioned_memory.specs.Areas.{interval_at, interval_to, block_in}
 use Rattle.partitioned_memory.specs.Held.{PartsHeld, after_block, after_exact, after_forgetting, after_inside, covers_held, is_counted, read_of}
+use Rattle.partitioned_memory.specs.KnownBytes.{known_image_byte}
 use Rattle.partitioned_memory.specs.Well.{HasCount, IsWell}
 use Rattle.partitioned_memory.specs.Describes.{AreBytes, GainsBlock, IsApart, IsDescribed, IsFresh, IsSpread, IsWritten, SameInAreas, StartsAt, bytes_in, number_in, stack_bytes_below}
 
@@ -21,6 +22,14 @@ ReadStands {D} d =
     IsValid p → StartsAt p a base → AreBytes ranges (interval_at a low (pos (bytes_of w))) →
     IsDescribed d ranges unset p h b →
     d.stands (read_of d ranges unset a low w h) p (number_in b base low w)
+
+-- a byte of the image that is known is memory's
+abbrev pub KnownStands : {D : Type 0} → Values D → Type 0
+KnownStands {D} d =
+    (ranges : List Range) (unset : List Span) (p : Places) (b : ℕ → ℕ) (h : PartsHeld D) (a n : ℕ) →
+    IsValid p → ((c : ℕ) → b c < 256) → a < 2 ^ 32 →
+    IsDescribed d ranges unset p h b →
+    known_image_byte d ranges unset h a ≡ Some n → b a ≡ n
 
 -- after a store of a number for which the value stands, the new parts describe the bytes by the same places
 abbrev pub ExactKeeps : {D : Type 0} → Values D → Type 0

@@ -45,7 +45,7 @@ fn first_byte(segments: &Segments, unset: &Ranges, area: Area, o: i64) -> Option
 }
 
 impl Known<'_> {
-    fn byte(&self, o: i64) -> Option<u8>
+    pub(crate) fn byte(&self, o: i64) -> Option<u8>
         requires { IsOffset self.now.area o }
         ensures { result ≡ known_byte (map range_of self.now.segments.now) self.now.unset.now self.now.dirty.now self.now.area o }
     {

@@ -8,6 +8,7 @@ mod count_list;
 mod dirty_list;
 mod fact;
 mod fact_list;
+mod held_byte;
 mod known;
 mod laws;
 mod parts;

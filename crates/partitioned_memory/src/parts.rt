@@ -6,6 +6,7 @@ ghost use Rattle.address_regions.specs.Extents.{has_one_base};
 ghost use Rattle.domain_laws.specs.Made.{values_of};
 ghost use Rattle.partitioned_memory.specs.Areas.{IsInside, block_in, interval_at, interval_to};
 ghost use Rattle.partitioned_memory.specs.Held.{after_block, after_exact, after_fact, after_forgetting, after_inside, after_interval, covers_held, nothing_held, read_of};
+ghost use Rattle.partitioned_memory.specs.KnownBytes.{known_image_byte};
 ghost use Rattle.partitioned_memory.specs.Well.{HasCount, MayHold, IsWell};
 
 use crate::area::{Area, Interval};
@@ -15,6 +16,7 @@ use crate::fact::{Counted, Dirty, Fact};
 use crate::fact_list::{
     cover_facts, facts_beside, facts_not_below, facts_off, facts_put, facts_with, found,
 };
+use crate::held_byte::byte_held;
 use crate::known::Known;
 use address_regions::Region;
 use bit_words::{NoMemory, Width};
@@ -97,6 +99,26 @@ impl<D: Domain> Parts<D> {
                 Some(n) => D::number(n),
                 None => D::any(),
             },
+        }
+    }
+
+    /// The byte at an address of the image, where it is known: that of a fact of the image that is a number, the lowest first, and else the
+    /// byte that was loaded, where it is neither dirty nor unset. None exactly where it is not known, or the address is none of the image's.
+    pub fn known_byte(&self, segments: &Segments, unset: &Ranges, a: u32) -> Option<u8>
+        ensures { result ≡ known_image_byte (values_of D.Domain.own D.eq) (map range_of segments.now) unset.now self.now a }
+    {
+        if segments.byte_at(a).is_none() {
+            return None;
+        }
+        let known = Known {
+            segments,
+            unset,
+            dirty: &self.dirty,
+            area: Area::Image,
+        };
+        match byte_held(&self.facts, i64::from(a)) {
+            Some(b) => Some(b),
+            None => known.byte(i64::from(a)),
         }
     }
 

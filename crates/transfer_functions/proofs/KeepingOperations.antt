@@ -8,8 +8,6 @@ use Rattle.bit_words.specs.Width.{bits_of}
 use Rattle.domain_laws.specs.Laws.{Values, IsLawful}
 use Rattle.memory_map.specs.Image.{Image}
 use Rattle.memory_map.specs.Range.{HasBytes, IsInUserSpace}
-use Rattle.memory_map.specs.Registers.{every_register}
-use Rattle.memory_map.specs.State.{MachineState}
 use Rattle.partitioned_memory.specs.declared.fact.Counted.{Counted}
 use Rattle.x86_syntax.specs.declared.instr.Instr.{Instr}
 use Rattle.x86_syntax.specs.declared.instr.Operand.{Operand}
@@ -35,26 +33,15 @@ HasNumbers (Convert op w to from by) = by < 2 ^ bits_of w
 HasNumbers (Return extra) = extra < 2 ^ 32
 HasNumbers operation = ⊤
 
-module _ {D : Type 0} (d : Values D) (l : IsLawful d) (image : Image) (p : Places) (start : MachineState) (blocks : List Counted) where
-  own_numbers : (operation : Operation) → IsOwn d l image p start blocks operation → HasNumbers operation
+module _ {D : Type 0} (d : Values D) (l : IsLawful d) (image : Image) (p : Places) (blocks : List Counted) where
+  own_numbers : (operation : Operation) → IsOwn d l image p blocks operation → HasNumbers operation
   own_numbers (Convert op w to from by) own = own
   own_numbers (Return extra) own = own
   own_numbers operation own = tt
 
--- some places and some machine state, of which nothing is said
+-- some places, of which nothing is said
 some_places : Places
 some_places = record { align = 4; stack = 0; fs = 0; gs = 0; blocks = [] }
-
-some_machine : MachineState
-some_machine = record {
-  registers = every_register 0;
-  eip = 0;
-  flags = record { carry = false; parity = false; adjust = false; zero = false; sign = false; overflow = false; direction = false };
-  fs = 0;
-  gs = 0;
-  stack = record { low = 0; bytes = []; write = false; execute = false };
-  ranges = [];
-}
 
 module _ {D : Type 0} (d : Values D) (l : IsLawful d) (image : Image) (blocks : List Counted) (bytes : All HasBytes image.segments) (stores : StoresKeep d l image blocks) where
   operation_keeps : (k : ℕ) (operation : Operation) (at n : ℕ) (q : Path D) → RefiningKeepsWell d → has_own_widths operation ≡ true → HasNumbers operation → IsWellPath d l image blocks q
@@ -123,6 +110,6 @@ module _ {D : Type 0} (d : Values D) (l : IsLawful d) (image : Image) (bytes : A
   instructions_keep_well k i at n s pair keeps well held =
       let blocks = s.parts.blocks in
       let next = operation_keeps d l image blocks bytes (stores_keep blocks well.small) k (operation_of i) at n (starts s) keeps (spelled_widths i)
-      (own_numbers d l image some_places some_machine blocks (operation_of i) (operations_own d l image some_places some_machine blocks i))
+      (own_numbers d l image some_places blocks (operation_of i) (operations_own d l image some_places blocks i))
       (record { well = well; blocks_same = refl }) pair held in
       next.well

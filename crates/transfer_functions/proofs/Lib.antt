@@ -25,3 +25,4 @@ pub mod SoundOperations
 pub mod KeepingOperations
 pub mod Soundness
 pub mod BlockPlaces
+pub mod Fetching

@@ -36,11 +36,11 @@ use Rattle.transfer_functions.proofs.Words.{word_fits, zero_fits}
 abbrev pub IsComparison : Op → FlagRule → Type 0
 IsComparison op rule = ((op ≡ ops.Sub) × (rule ≡ Difference)) ⊎ ((op ≡ ops.And) × (rule ≡ Logic))
 
-module _ {D : Type 0} (d : Values D) (l : IsLawful d) (image : Image) (p : Places) (start : MachineState) (blocks : List Counted) where
+module _ {D : Type 0} (d : Values D) (l : IsLawful d) (image : Image) (p : Places) (blocks : List Counted) where
   -- an operator and a rule that belong together, and numbers that are words
   abbrev pub IsOwn : Operation → Type 0
-  IsOwn (Combine op rule w to from) = HasRule d l image p start blocks rule op w to from (λ x y c. apply_op op w x y)
-  IsOwn (Carry op rule w to from) = HasRule d l image p start blocks rule op w to from (λ x y c. apply_op op w (apply_op op w x y) (one_if c))
+  IsOwn (Combine op rule w to from) = HasRule d l image p blocks rule op w to from (λ x y c. apply_op op w x y)
+  IsOwn (Carry op rule w to from) = HasRule d l image p blocks rule op w to from (λ x y c. apply_op op w (apply_op op w x y) (one_if c))
   IsOwn (Compare op rule w left right) = IsComparison op rule
   IsOwn (Convert op w to from by) = by < 2 ^ bits_of w
   IsOwn (Shift op rule w to count) = (is_shift op ≡ true) × (is_counted rule ≡ true)
@@ -134,9 +134,9 @@ module _ {D : Type 0} (d : Values D) (l : IsLawful d) (image : Image) (p : Place
   none_own name i = tt
 
   one_own : (name : Mnemonic) (w : Width) (a : Operand) → IsOwn (of_one name w a)
-  one_own names.Inc w a = inc_rule d l image p start blocks w a
-  one_own names.Dec w a = dec_rule d l image p start blocks w a
-  one_own names.Neg w a = neg_rule d l image p start blocks w a (Number w 0)
+  one_own names.Inc w a = inc_rule d l image p blocks w a
+  one_own names.Dec w a = dec_rule d l image p blocks w a
+  one_own names.Neg w a = neg_rule d l image p blocks w a (Number w 0)
   one_own names.Not w a = zero_fits w
   one_own names.Bswap w a = zero_fits w
   one_own names.Mul w a = refl
@@ -150,13 +150,13 @@ module _ {D : Type 0} (d : Values D) (l : IsLawful d) (image : Image) (p : Place
   one_own name w a = tt
 
   two_own : (name : Mnemonic) (w : Width) (a b : Operand) → IsOwn (of_two name w a b)
-  two_own names.Add w a b = sum_rule d l image p start blocks w a b
-  two_own names.Sub w a b = sub_rule d l image p start blocks w a b
-  two_own names.And w a b = logic_rule d l image p start blocks ops.And w a b
-  two_own names.Or w a b = logic_rule d l image p start blocks ops.Or w a b
-  two_own names.Xor w a b = logic_rule d l image p start blocks ops.Xor w a b
-  two_own names.Adc w a b = sum_with_carry_rule d l image p start blocks w a b
-  two_own names.Sbb w a b = sub_with_borrow_rule d l image p start blocks w a b
+  two_own names.Add w a b = sum_rule d l image p blocks w a b
+  two_own names.Sub w a b = sub_rule d l image p blocks w a b
+  two_own names.And w a b = logic_rule d l image p blocks ops.And w a b
+  two_own names.Or w a b = logic_rule d l image p blocks ops.Or w a b
+  two_own names.Xor w a b = logic_rule d l image p blocks ops.Xor w a b
+  two_own names.Adc w a b = sum_with_carry_rule d l image p blocks w a b
+  two_own names.Sbb w a b = sub_with_borrow_rule d l image p blocks w a b
   two_own names.Cmp w a b = inl (refl, refl)
   two_own names.Test w a b = inr (refl, refl)
   two_own names.Movsx w a b = zero_fits w

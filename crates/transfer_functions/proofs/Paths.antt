@@ -8,7 +8,6 @@ use Rattle.bit_words.specs.declared.width.Width.TheVariants.{B32}
 use Rattle.address_regions.specs.Places.{Places}
 use Rattle.domain_laws.specs.Laws.{Values, IsLawful}
 use Rattle.memory_map.specs.Image.{Image}
-use Rattle.memory_map.specs.Range.{code_at}
 use Rattle.memory_map.specs.State.{MachineState, memory}
 use Rattle.partitioned_memory.specs.declared.fact.Counted.{Counted}
 use Rattle.x86_semantics.specs.Operands.{Ended, Next, Faulted, at_address}
@@ -52,33 +51,33 @@ both_none : {X : Type 0} (xs ys : List X) → xs ++ ys ≡ [] → (xs ≡ []) ×
 both_none [] ys e = (refl, e)
 both_none (x ∷ xs) ys e = cc
 
-module _ {D : Type 0} (d : Values D) (l : IsLawful d) (image : Image) (p : Places) (start : MachineState) (blocks : List Counted) where
+module _ {D : Type 0} (d : Values D) (l : IsLawful d) (image : Image) (p : Places) (blocks : List Counted) where
   -- ---- several paths
 
   -- what one of two paths leads to
-  pub joined_first : (x y : Expanded D) (e : Ended) → E d l image p start blocks x e → E d l image p start blocks (joined x y) e
+  pub joined_first : (x y : Expanded D) (e : Ended) → E d l image p blocks x e → E d l image p blocks (joined x y) e
   joined_first x y e h =
-      elim e as (λ t. E d l image p start blocks x t → E d l image p start blocks (joined x y) t) [
+      elim e as (λ t. E d l image p blocks x t → E d l image p blocks (joined x y) t) [
         | Next n ↦ λ f none.
             let parts = both_none x.causes y.causes (set_none cause_cmp (x.causes ++ y.causes) none) in
             let k = f parts.0 in
-            record { state = k.state; pair = Contains-append_left x.next y.next (n.eip, k.state) k.pair; well = k.well; describes = k.describes; code = k.code }
+            record { state = k.state; pair = Contains-append_left x.next y.next (n.eip, k.state) k.pair; well = k.well; describes = k.describes }
         | Faulted kind m ↦ λ f. tt
       ] h
 
-  pub joined_second : (x y : Expanded D) (e : Ended) → E d l image p start blocks y e → E d l image p start blocks (joined x y) e
+  pub joined_second : (x y : Expanded D) (e : Ended) → E d l image p blocks y e → E d l image p blocks (joined x y) e
   joined_second x y e h =
-      elim e as (λ t. E d l image p start blocks y t → E d l image p start blocks (joined x y) t) [
+      elim e as (λ t. E d l image p blocks y t → E d l image p blocks (joined x y) t) [
         | Next n ↦ λ f none.
             let parts = both_none x.causes y.causes (set_none cause_cmp (x.causes ++ y.causes) none) in
             let k = f parts.1 in
-            record { state = k.state; pair = Contains-append_right x.next y.next (n.eip, k.state) k.pair; well = k.well; describes = k.describes; code = k.code }
+            record { state = k.state; pair = Contains-append_right x.next y.next (n.eip, k.state) k.pair; well = k.well; describes = k.describes }
         | Faulted kind m ↦ λ f. tt
       ] h
 
   -- one way where a test holds, and the other where it does not
-  pub either_ends : (t : Truth) (b : Bool) (x y : Expanded D) (e f : Ended) → StandsFor t b → (b ≡ true → E d l image p start blocks x e) → (b ≡ false → E d l image p start blocks y f)
-      → E d l image p start blocks (either_way t x y) (cond b e f)
+  pub either_ends : (t : Truth) (b : Bool) (x y : Expanded D) (e f : Ended) → StandsFor t b → (b ≡ true → E d l image p blocks x e) → (b ≡ false → E d l image p blocks y f)
+      → E d l image p blocks (either_way t x y) (cond b e f)
   either_ends Yes true x y e f stands h k = h refl
   either_ends Yes false x y e f stands h k = cc
   either_ends No true x y e f stands h k = cc
@@ -113,30 +112,29 @@ module _ {D : Type 0} (d : Values D) (l : IsLawful d) (image : Image) (p : Place
     pub well : IsWellState d state
     pub describes : Describes d image state p m
 
-  pub lands_each_ends : (states : List (Known D)) (a : ℕ) (q : Path D) (m : MachineState) → a < 2 ^ 32 → IsAmong states m → H d l image p start blocks q m → E d l image p start blocks (lands_each a states q) (Next (at_address a m))
+  pub lands_each_ends : (states : List (Known D)) (a : ℕ) (q : Path D) (m : MachineState) → a < 2 ^ 32 → IsAmong states m → H d l image p blocks q m → E d l image p blocks (lands_each a states q) (Next (at_address a m))
   lands_each_ends states a q m less k h = λ none. record {
     state = k.state;
     pair = Contains-map (λ s. (a, s)) states k.state k.there;
     well = k.well;
     describes = moved_describes k.state m a less k.describes;
-    code = h.code;
   }
 
   branch_ended : (b : Bool) (taken past : ℕ) (m : MachineState) → cond b (Next (at_address taken m)) (Next (at_address past m)) ≡ Next (at_address (cond b taken past) m)
   branch_ended true taken past m = refl
   branch_ended false taken past m = refl
 
-  pub branched_ends : (t : Truth) (b : Bool) (taken past : ℕ) (q : Path D) (m : MachineState) → StandsFor t b → taken < 2 ^ 32 → past < 2 ^ 32 → H d l image p start blocks q m
-      → E d l image p start blocks (branched t taken past q) (Next (at_address (cond b taken past) m))
+  pub branched_ends : (t : Truth) (b : Bool) (taken past : ℕ) (q : Path D) (m : MachineState) → StandsFor t b → taken < 2 ^ 32 → past < 2 ^ 32 → H d l image p blocks q m
+      → E d l image p blocks (branched t taken past q) (Next (at_address (cond b taken past) m))
   branched_ends t b taken past q m stands less also h =
-      subst (λ e. E d l image p start blocks (branched t taken past q) e) (branch_ended b taken past m)
-      (either_ends t b _ _ _ _ stands (λ _. lands_ends d l image p start blocks taken q m less h) (λ _. lands_ends d l image p start blocks past q m also h))
+      subst (λ e. E d l image p blocks (branched t taken past q) e) (branch_ended b taken past m)
+      (either_ends t b _ _ _ _ stands (λ _. lands_ends d l image p blocks taken q m less h) (λ _. lands_ends d l image p blocks past q m also h))
 
-  pub landing_at : (o : Option ℕ) (a : ℕ) (q : Path D) (m : MachineState) → ((n : ℕ) → o ≡ Some n → a ≡ n) → a < 2 ^ 32 → H d l image p start blocks q m → E d l image p start blocks (landing o q) (Next (at_address a m))
+  pub landing_at : (o : Option ℕ) (a : ℕ) (q : Path D) (m : MachineState) → ((n : ℕ) → o ≡ Some n → a ≡ n) → a < 2 ^ 32 → H d l image p blocks q m → E d l image p blocks (landing o q) (Next (at_address a m))
   landing_at None a q m is less h = λ none. absurd (cc)
   landing_at (Some n) a q m is less h =
-      subst (λ z. E d l image p start blocks (lands z q) (Next (at_address a m))) (is n refl) (lands_ends d l image p start blocks a q m less h)
+      subst (λ z. E d l image p blocks (lands z q) (Next (at_address a m))) (is n refl) (lands_ends d l image p blocks a q m less h)
 
   -- at the number that a value is, or open
-  pub landing_ends : (v : D) (a : ℕ) (q : Path D) (m : MachineState) → S d l image p start blocks B32 v a → H d l image p start blocks q m → E d l image p start blocks (landing (d.number_of v) q) (Next (at_address a m))
+  pub landing_ends : (v : D) (a : ℕ) (q : Path D) (m : MachineState) → S d l image p blocks B32 v a → H d l image p blocks q m → E d l image p blocks (landing (d.number_of v) q) (Next (at_address a m))
   landing_ends v a q m k h = landing_at (d.number_of v) a q m (λ n e. l.number_of_alone v n p a h.describes.fits.valid e k.stands) k.fits h

@@ -52,7 +52,6 @@ use Rattle.x86_semantics.specs.Operands.{Ended, address_of, with_flags as with_f
 use Rattle.x86_semantics.specs.Arithmetic.{combine as combine_of, compare as compare_of, carry as carry_of, carried as carried_of, flagged as flagged_of}
 use Rattle.x86_semantics.specs.Registers.{part as part_of, register as register_of}
 use Rattle.x86_semantics.specs.Widths.{has_place, has_width, is_place, is_value, is_width, width_of}
-use Rattle.x86_semantics.proofs.Storing.{IsFixedCode}
 use Rattle.abstract_state.specs.declared.truth.Truth.{Truth}
 use Rattle.abstract_state.specs.declared.truth.Truth.TheVariants.{Yes, No, Unknown}
 use Rattle.abstract_state.specs.declared.flags.Truths.{Truths}
@@ -141,8 +140,8 @@ place_inside low e =
 pub some_note : (n : Note) → IsWellNote n → ForSome (Some n) IsWellNote
 some_note n h k e = let same : n ≡ k = cc in subst IsWellNote same h
 
-module _ {D : Type 0} (d : Values D) (l : IsLawful d) (image : Image) (p : Places) (start : MachineState) (blocks : List Counted) where
-  same_read : (left right : Operand) (m : MachineState) (x y : ℕ) → is_same_register left right ≡ true → IsRead d l image p start blocks left m x → IsRead d l image p start blocks right m y → x ≡ y
+module _ {D : Type 0} (d : Values D) (l : IsLawful d) (image : Image) (p : Places) (blocks : List Counted) where
+  same_read : (left right : Operand) (m : MachineState) (x y : ℕ) → is_same_register left right ≡ true → IsRead d l image p blocks left m x → IsRead d l image p blocks right m y → x ≡ y
   same_read (Register v q) (Register w r) m x y e h k =
       let parts = and_parts (is_width v w) (q == r) e in
       h ∙ ap (λ u. part_of u q m) (same_width v w parts.0) ∙ ap (λ n. part_of w n m) (eqb-true q r parts.1) ∙ sym k
@@ -156,18 +155,18 @@ module _ {D : Type 0} (d : Values D) (l : IsLawful d) (image : Image) (p : Place
     pub same : x ≡ y
 
   pub record IsEach (w : Width) (v u : D) (x y : ℕ) : Type 0 where
-    pub left : S d l image p start blocks w v x
-    pub right : S d l image p start blocks w u y
+    pub left : S d l image p blocks w v x
+    pub right : S d l image p blocks w u y
 
   pub record AreRead (op : Op) (w : Width) (left right : Operand) (m : MachineState) (v u : D) (x y : ℕ) : Type 0 where
     pub either : (IsEach w v u x y) ⊎ (IsTwice op left right v u x y)
-    pub left_read : IsRead d l image p start blocks left m x
-    pub right_read : IsRead d l image p start blocks right m y
+    pub left_read : IsRead d l image p blocks left m x
+    pub right_read : IsRead d l image p blocks right m y
     pub right_fits : y < 2 ^ bits_of w
 
-  reading_twice : (op : Op) (left right : Operand) (q : Path D) (m : MachineState) (k : D → D → Expanded D) (go : ℕ → ℕ → Ended) → (cancels op && is_same_register left right) ≡ true → is_same_register left right ≡ true → H d l image p start blocks q m
-      → ((v u : D) (x y : ℕ) → AreRead op (width_of left) left right m v u x y → E d l image p start blocks (k v u) (go x y))
-      → E d l image p start blocks (k (d.number 0) (d.number 0)) (reading_of m left (λ x. reading_of m right (λ y. go x y)))
+  reading_twice : (op : Op) (left right : Operand) (q : Path D) (m : MachineState) (k : D → D → Expanded D) (go : ℕ → ℕ → Ended) → (cancels op && is_same_register left right) ≡ true → is_same_register left right ≡ true → H d l image p blocks q m
+      → ((v u : D) (x y : ℕ) → AreRead op (width_of left) left right m v u x y → E d l image p blocks (k v u) (go x y))
+      → E d l image p blocks (k (d.number 0) (d.number 0)) (reading_of m left (λ x. reading_of m right (λ y. go x y)))
   reading_twice op (Register v r) (Register w t) q m k go e same h then =
       let parts = and_parts (is_width v w) (r == t) same in
       let here = ap (λ u. part_of u r m) (same_width v w parts.0) ∙ ap (λ n. part_of w n m) (eqb-true r t parts.1) in
@@ -175,29 +174,29 @@ module _ {D : Type 0} (d : Values D) (l : IsLawful d) (image : Image) (p : Place
         either = inr (record { twice = e; left_zero = refl; right_zero = refl; same = here });
         left_read = refl;
         right_read = refl;
-        right_fits = subst (λ n. n < 2 ^ bits_of v) here (part_stands d l image p start blocks v r q m h).fits;
+        right_fits = subst (λ n. n < 2 ^ bits_of v) here (part_stands d l image p blocks v r q m h).fits;
       })
   reading_twice op _ _ q m k go e same h then = cc
 
-  reading_each : (op : Op) (w : Width) (left right : Operand) (q : Path D) (m : MachineState) (k : D → D → Expanded D) (go : ℕ → ℕ → Ended) → has_width w left ≡ true → has_width w right ≡ true → H d l image p start blocks q m
-      → ((v u : D) (x y : ℕ) → AreRead op w left right m v u x y → E d l image p start blocks (k v u) (go x y))
-      → E d l image p start blocks (after_pair q.writes (pair_of (operand_value d image left q.state) (operand_value d image right q.state)) k) (reading_of m left (λ x. reading_of m right (λ y. go x y)))
+  reading_each : (op : Op) (w : Width) (left right : Operand) (q : Path D) (m : MachineState) (k : D → D → Expanded D) (go : ℕ → ℕ → Ended) → has_width w left ≡ true → has_width w right ≡ true → H d l image p blocks q m
+      → ((v u : D) (x y : ℕ) → AreRead op w left right m v u x y → E d l image p blocks (k v u) (go x y))
+      → E d l image p blocks (after_pair q.writes (pair_of (operand_value d image left q.state) (operand_value d image right q.state)) k) (reading_of m left (λ x. reading_of m right (λ y. go x y)))
   reading_each op w left right q m k go is also h then =
       let first = and_parts (is_value left) (is_width (width_of left) w) is in
       let second = and_parts (is_value right) (is_width (width_of right) w) also in
-      let wide = λ (v : D) (x : ℕ) (s : S d l image p start blocks (width_of left) v x). subst (λ z. S d l image p start blocks z v x) (same_width (width_of left) w first.1) s in
-      let other = λ (v : D) (x : ℕ) (s : S d l image p start blocks (width_of right) v x). subst (λ z. S d l image p start blocks z v x) (same_width (width_of right) w second.1) s in
-      subst (λ z. E d l image p start blocks z (reading_of m left (λ x. reading_of m right (λ y. go x y)))) (pairs d image q.writes (operand_value d image left q.state) (operand_value d image right q.state) k)
-      (reading_ends d l image p start blocks left q m _ _ first.0 h (λ v x s read.
-      reading_ends d l image p start blocks right q m _ _ second.0 h (λ u y t also_read.
+      let wide = λ (v : D) (x : ℕ) (s : S d l image p blocks (width_of left) v x). subst (λ z. S d l image p blocks z v x) (same_width (width_of left) w first.1) s in
+      let other = λ (v : D) (x : ℕ) (s : S d l image p blocks (width_of right) v x). subst (λ z. S d l image p blocks z v x) (same_width (width_of right) w second.1) s in
+      subst (λ z. E d l image p blocks z (reading_of m left (λ x. reading_of m right (λ y. go x y)))) (pairs d image q.writes (operand_value d image left q.state) (operand_value d image right q.state) k)
+      (reading_ends d l image p blocks left q m _ _ first.0 h (λ v x s read.
+      reading_ends d l image p blocks right q m _ _ second.0 h (λ u y t also_read.
       then v u x y (record { either = inl (record { left = wide v x s; right = other u y t }); left_read = read; right_read = also_read; right_fits = (other u y t).fits }))))
 
-  pub both_ends : (op : Op) (w : Width) (left right : Operand) (q : Path D) (m : MachineState) (k : D → D → Expanded D) (go : ℕ → ℕ → Ended) → has_width w left ≡ true → has_width w right ≡ true → H d l image p start blocks q m
-      → ((v u : D) (x y : ℕ) → AreRead op w left right m v u x y → E d l image p start blocks (k v u) (go x y))
-      → E d l image p start blocks (reading_both d image op q left right k) (reading_of m left (λ x. reading_of m right (λ y. go x y)))
+  pub both_ends : (op : Op) (w : Width) (left right : Operand) (q : Path D) (m : MachineState) (k : D → D → Expanded D) (go : ℕ → ℕ → Ended) → has_width w left ≡ true → has_width w right ≡ true → H d l image p blocks q m
+      → ((v u : D) (x y : ℕ) → AreRead op w left right m v u x y → E d l image p blocks (k v u) (go x y))
+      → E d l image p blocks (reading_both d image op q left right k) (reading_of m left (λ x. reading_of m right (λ y. go x y)))
   both_ends op w left right q m k go is also h then =
       elim (cancels op && is_same_register left right) as (λ b. (cancels op && is_same_register left right) ≡ b
-      → E d l image p start blocks (after_pair q.writes (cond b (Some (d.number 0, d.number 0)) (pair_of (operand_value d image left q.state) (operand_value d image right q.state))) k) (reading_of m left (λ x. reading_of m right (λ y. go x y)))) [
+      → E d l image p blocks (after_pair q.writes (cond b (Some (d.number 0, d.number 0)) (pair_of (operand_value d image left q.state) (operand_value d image right q.state))) k) (reading_of m left (λ x. reading_of m right (λ y. go x y)))) [
         | true ↦ λ e.
             let width = same_width (width_of left) w (and_parts (is_value left) (is_width (width_of left) w) is).1 in
             reading_twice op left right q m k go e (and_parts (cancels op) (is_same_register left right) e).1 h
@@ -213,57 +212,57 @@ module _ {D : Type 0} (d : Values D) (l : IsLawful d) (image : Image) (p : Place
   cancelled Xor w x e = xor_itself w x
   cancelled op w x e = cc
 
-  zeros : (op : Op) (w : Width) (left right : Operand) (v u : D) (x y : ℕ) (q : Path D) (m : MachineState) → H d l image p start blocks q m → IsTwice op left right v u x y
-      → S d l image p start blocks w (d.eval op w v u image.align) (apply_op op w x y)
+  zeros : (op : Op) (w : Width) (left right : Operand) (v u : D) (x y : ℕ) (q : Path D) (m : MachineState) → H d l image p blocks q m → IsTwice op left right v u x y
+      → S d l image p blocks w (d.eval op w v u image.align) (apply_op op w x y)
   zeros op w left right v u x y q m h t =
-      let zero = number_known d l image p start blocks w 0 q m h (zero_fits w) in
+      let zero = number_known d l image p blocks w 0 q m h (zero_fits w) in
       let e : apply_op op w 0 0 ≡ apply_op op w x y = sym (cancelled op w x (and_parts (cancels op) (is_same_register left right) t.twice).0) ∙ ap (apply_op op w x) t.same in
-      let P : D → Type 0 = λ a. S d l image p start blocks w (d.eval op w a u image.align) (apply_op op w x y) in
-      let Q : D → Type 0 = λ b. S d l image p start blocks w (d.eval op w (d.number 0) b image.align) (apply_op op w x y) in
-      subst P (sym t.left_zero) (subst Q (sym t.right_zero) (subst (S d l image p start blocks w (d.eval op w (d.number 0) (d.number 0) image.align)) e (eval_stands d l image p start blocks op w _ _ 0 0 q m h zero zero)))
+      let P : D → Type 0 = λ a. S d l image p blocks w (d.eval op w a u image.align) (apply_op op w x y) in
+      let Q : D → Type 0 = λ b. S d l image p blocks w (d.eval op w (d.number 0) b image.align) (apply_op op w x y) in
+      subst P (sym t.left_zero) (subst Q (sym t.right_zero) (subst (S d l image p blocks w (d.eval op w (d.number 0) (d.number 0) image.align)) e (eval_stands d l image p blocks op w _ _ 0 0 q m h zero zero)))
 
-  evaluated : (op : Op) (w : Width) (left right : Operand) (v u : D) (x y : ℕ) (q : Path D) (m : MachineState) → H d l image p start blocks q m → AreRead op w left right m v u x y
-      → S d l image p start blocks w (d.eval op w v u image.align) (apply_op op w x y)
+  evaluated : (op : Op) (w : Width) (left right : Operand) (v u : D) (x y : ℕ) (q : Path D) (m : MachineState) → H d l image p blocks q m → AreRead op w left right m v u x y
+      → S d l image p blocks w (d.eval op w v u image.align) (apply_op op w x y)
   evaluated op w left right v u x y q m h r = elim r.either [
-    | inl each ↦ eval_stands d l image p start blocks op w v u x y q m h each.left each.right
+    | inl each ↦ eval_stands d l image p blocks op w v u x y q m h each.left each.right
     | inr twice ↦ zeros op w left right v u x y q m h twice
   ]
 
   -- AND and OR of a register with itself
   kept : (op : Op) (w : Width) (left right : Operand) (v u : D) (x y : ℕ) (m : MachineState) → keeps op ≡ true → is_same_register left right ≡ true → AreRead op w left right m v u x y
-      → S d l image p start blocks w v (apply_op op w x y)
+      → S d l image p blocks w v (apply_op op w x y)
   kept And w left right v u x y m e same r = elim r.either [
     | inl each ↦
         let here = same_read left right m x y same r.left_read r.right_read in
-        subst (S d l image p start blocks w v) (sym (and_itself w x each.left.fits) ∙ ap (apply_op And w x) here) each.left
+        subst (S d l image p blocks w v) (sym (and_itself w x each.left.fits) ∙ ap (apply_op And w x) here) each.left
     | inr twice ↦ let none = twice.twice in cc
   ]
   kept Or w left right v u x y m e same r = elim r.either [
     | inl each ↦
         let here = same_read left right m x y same r.left_read r.right_read in
-        subst (S d l image p start blocks w v) (sym (or_itself w x each.left.fits) ∙ ap (apply_op Or w x) here) each.left
+        subst (S d l image p blocks w v) (sym (or_itself w x each.left.fits) ∙ ap (apply_op Or w x) here) each.left
     | inr twice ↦ let none = twice.twice in cc
   ]
   kept op w left right v u x y m e same r = cc
 
-  pub combined_stands : (op : Op) (w : Width) (left right : Operand) (v u : D) (x y : ℕ) (q : Path D) (m : MachineState) → H d l image p start blocks q m → AreRead op w left right m v u x y
-      → S d l image p start blocks w (combined d image.align op w left right v u) (apply_op op w x y)
+  pub combined_stands : (op : Op) (w : Width) (left right : Operand) (v u : D) (x y : ℕ) (q : Path D) (m : MachineState) → H d l image p blocks q m → AreRead op w left right m v u x y
+      → S d l image p blocks w (combined d image.align op w left right v u) (apply_op op w x y)
   combined_stands op w left right v u x y q m h r =
-      elim (keeps op && is_same_register left right) as (λ b. (keeps op && is_same_register left right) ≡ b → S d l image p start blocks w (cond b v (d.eval op w v u image.align)) (apply_op op w x y)) [
+      elim (keeps op && is_same_register left right) as (λ b. (keeps op && is_same_register left right) ≡ b → S d l image p blocks w (cond b v (d.eval op w v u image.align)) (apply_op op w x y)) [
         | true ↦ λ e. let parts = and_parts (keeps op) (is_same_register left right) e in kept op w left right v u x y m parts.0 parts.1 r
         | false ↦ λ e. evaluated op w left right v u x y q m h r
       ] refl
 
   -- CF as a number
-  truth_stands : (w : Width) (t : Truth) (c : Bool) (q : Path D) (m : MachineState) → H d l image p start blocks q m → StandsFor t c → S d l image p start blocks w (value_of_truth d t) (one_if c)
-  truth_stands w Yes c q m h s = subst (λ b. S d l image p start blocks w (d.number 1) (one_if b)) (sym s) (number_known d l image p start blocks w 1 q m h (one_fits w))
-  truth_stands w No c q m h s = subst (λ b. S d l image p start blocks w (d.number 0) (one_if b)) (sym s) (number_known d l image p start blocks w 0 q m h (zero_fits w))
-  truth_stands w Unknown c q m h s = any_known d l image p start blocks w (one_if c) q m h (carry_fits w c)
+  truth_stands : (w : Width) (t : Truth) (c : Bool) (q : Path D) (m : MachineState) → H d l image p blocks q m → StandsFor t c → S d l image p blocks w (value_of_truth d t) (one_if c)
+  truth_stands w Yes c q m h s = subst (λ b. S d l image p blocks w (d.number 1) (one_if b)) (sym s) (number_known d l image p blocks w 1 q m h (one_fits w))
+  truth_stands w No c q m h s = subst (λ b. S d l image p blocks w (d.number 0) (one_if b)) (sym s) (number_known d l image p blocks w 0 q m h (zero_fits w))
+  truth_stands w Unknown c q m h s = any_known d l image p blocks w (one_if c) q m h (carry_fits w c)
 
-  pub carried_stands : (op : Op) (w : Width) (left right : Operand) (v u : D) (x y : ℕ) (q : Path D) (m : MachineState) → H d l image p start blocks q m → AreRead op w left right m v u x y
-      → S d l image p start blocks w (carried d image.align op w v u q.state) (carried_of op w x y m)
+  pub carried_stands : (op : Op) (w : Width) (left right : Operand) (v u : D) (x y : ℕ) (q : Path D) (m : MachineState) → H d l image p blocks q m → AreRead op w left right m v u x y
+      → S d l image p blocks w (carried d image.align op w v u q.state) (carried_of op w x y m)
   carried_stands op w left right v u x y q m h r =
-      eval_stands d l image p start blocks op w _ _ _ _ q m h (evaluated op w left right v u x y q m h r)
+      eval_stands d l image p blocks op w _ _ _ _ q m h (evaluated op w left right v u x y q m h r)
       (truth_stands w q.state.flags.carry m.flags.carry q m h h.describes.flags.carry)
 
   -- ---- flags
@@ -272,16 +271,16 @@ module _ {D : Type 0} (d : Values D) (l : IsLawful d) (image : Image) (p : Place
   pub record HasRule (rule : FlagRule) (op : Op) (w : Width) (left right : Operand) (result : ℕ → ℕ → Bool → ℕ) : Type 0 where
     pub plain : is_counted rule ≡ false
     -- the result is the rule's
-    pub gives : (m : MachineState) (x y : ℕ) (f : Flags) → IsRead d l image p start blocks right m y → IsResult rule w x y f (result x y f.carry)
+    pub gives : (m : MachineState) (x y : ℕ) (f : Flags) → IsRead d l image p blocks right m y → IsResult rule w x y f (result x y f.carry)
     -- a word with itself, where it is read as 0, is as 0 with 0
     pub cancelled_result : (cancels op && is_same_register left right) ≡ true → (x : ℕ) (f : Flags) → IsResult rule w 0 0 f (result x x f.carry)
     pub cancelled_flags : (cancels op && is_same_register left right) ≡ true → (x z : ℕ) (f : Flags) → ruled rule w x x z f ≡ ruled rule w 0 0 z f
 
-  known : (w : Width) (v : D) (x : ℕ) → S d l image p start blocks w v x → KnownWord d p w v x
+  known : (w : Width) (v : D) (x : ℕ) → S d l image p blocks w v x → KnownWord d p w v x
   known w v x s = record { stands = s.stands; fits = s.fits }
 
   flags_stand : (rule : FlagRule) (op : Op) (w : Width) (left right : Operand) (result : ℕ → ℕ → Bool → ℕ) (v u value : D) (x y : ℕ) (q : Path D) (m : MachineState) (t : Truths) (f : Flags) (choice : Choice)
-      → HasRule rule op w left right result → H d l image p start blocks q m → AreRead op w left right m v u x y → S d l image p start blocks w value (result x y f.carry) → FlagsStand t f
+      → HasRule rule op w left right result → H d l image p blocks q m → AreRead op w left right m v u x y → S d l image p blocks w value (result x y f.carry) → FlagsStand t f
       → FlagsStand (ruled_truths d image.align rule w v u value t) (flags_after rule w x y (result x y f.carry) choice f)
   flags_stand rule op w left right result v u value x y q m t f choice has h r s before =
       let fits = h.describes.fits in
@@ -304,40 +303,40 @@ module _ {D : Type 0} (d : Values D) (l : IsLawful d) (image : Image) (p : Place
   -- ---- the operations
 
   flagged_ends : (rule : FlagRule) (w : Width) (v u value : D) (x y z next : ℕ) (choice : Choice) (q : Path D) (m : MachineState) → next < 2 ^ 32
-      → FlagsStand (ruled_truths d image.align rule w v u value q.state.flags) (flags_after rule w x y z choice m.flags) → H d l image p start blocks q m
-      → E d l image p start blocks (flagged d image rule w v u value next q) (flagged_of rule w x y z next choice m)
+      → FlagsStand (ruled_truths d image.align rule w v u value q.state.flags) (flags_after rule w x y z choice m.flags) → H d l image p blocks q m
+      → E d l image p blocks (flagged d image rule w v u value next q) (flagged_of rule w x y z next choice m)
   flagged_ends rule w v u value x y z next choice q m less stands h =
-      lands_ends d l image p start blocks next _ _ less (with_flags_holds d l image p start blocks _ _ q m stands h)
+      lands_ends d l image p blocks next _ _ less (with_flags_holds d l image p blocks _ _ q m stands h)
 
   -- both operands were read, and the result is written
   written_ends : (rule : FlagRule) (op : Op) (w : Width) (left right : Operand) (result : ℕ → ℕ → Bool → ℕ) (v u value : D) (x y next : ℕ) (choice : Choice) (q : Path D) (m : MachineState)
-      → All IsFixedCode image.segments → next < 2 ^ 32 → has_place w left ≡ true → HasRule rule op w left right result → H d l image p start blocks q m → AreRead op w left right m v u x y
-      → S d l image p start blocks w value (result x y m.flags.carry)
-      → E d l image p start blocks (writing d image q left value (λ r. flagged d image rule w v u value next r))
+      → next < 2 ^ 32 → has_place w left ≡ true → HasRule rule op w left right result → H d l image p blocks q m → AreRead op w left right m v u x y
+      → S d l image p blocks w value (result x y m.flags.carry)
+      → E d l image p blocks (writing d image q left value (λ r. flagged d image rule w v u value next r))
       (writing_of m left (result x y m.flags.carry) (λ n. flagged_of rule w x y (result x y m.flags.carry) next choice n))
-  written_ends rule op w left right result v u value x y next choice q m fixed less place has h read s =
+  written_ends rule op w left right result v u value x y next choice q m less place has h read s =
       let parts = and_parts (is_place left) (is_width (width_of left) w) place in
-      let own = subst (λ z. S d l image p start blocks z value (result x y m.flags.carry)) (sym (same_width (width_of left) w parts.1)) s in
-      writing_ends d l image p start blocks left value _ q m _ _ fixed parts.0 own h
+      let own = subst (λ z. S d l image p blocks z value (result x y m.flags.carry)) (sym (same_width (width_of left) w parts.1)) s in
+      writing_ends d l image p blocks left value _ q m _ _ parts.0 own h
       (λ r n holds same.
       let C : Flags → Type 0 = λ f. FlagsStand (ruled_truths d image.align rule w v u value r.state.flags) (flags_after rule w x y (result x y f.carry) choice n.flags) in
-      let V : Flags → Type 0 = λ f. S d l image p start blocks w value (result x y f.carry) in
+      let V : Flags → Type 0 = λ f. S d l image p blocks w value (result x y f.carry) in
       let stands = flags_stand rule op w left right result v u value x y q m r.state.flags n.flags choice has h read (subst V (sym same) s) holds.describes.flags in
       flagged_ends rule w v u value x y (result x y m.flags.carry) next choice r n less (subst C same stands) holds)
 
-  pub combine_ends : (op : Op) (rule : FlagRule) (w : Width) (to from : Operand) (next : ℕ) (choice : Choice) (q : Path D) (m : MachineState) → All IsFixedCode image.segments → next < 2 ^ 32
-      → has_place w to ≡ true → has_width w from ≡ true → HasRule rule op w to from (λ x y c. apply_op op w x y) → H d l image p start blocks q m
-      → E d l image p start blocks (combine d image op rule w to from next q) (combine_of op rule w to from next choice m)
-  combine_ends op rule w to from next choice q m fixed less place value has h =
+  pub combine_ends : (op : Op) (rule : FlagRule) (w : Width) (to from : Operand) (next : ℕ) (choice : Choice) (q : Path D) (m : MachineState) → next < 2 ^ 32
+      → has_place w to ≡ true → has_width w from ≡ true → HasRule rule op w to from (λ x y c. apply_op op w x y) → H d l image p blocks q m
+      → E d l image p blocks (combine d image op rule w to from next q) (combine_of op rule w to from next choice m)
+  combine_ends op rule w to from next choice q m less place value has h =
       both_ends op w to from q m _ _ (place_has_width w to place) value h
-      (λ v u x y read. written_ends rule op w to from (λ x y c. apply_op op w x y) v u _ x y next choice q m fixed less place has h read (combined_stands op w to from v u x y q m h read))
+      (λ v u x y read. written_ends rule op w to from (λ x y c. apply_op op w x y) v u _ x y next choice q m less place has h read (combined_stands op w to from v u x y q m h read))
 
-  pub carry_ends : (op : Op) (rule : FlagRule) (w : Width) (to from : Operand) (next : ℕ) (choice : Choice) (q : Path D) (m : MachineState) → All IsFixedCode image.segments → next < 2 ^ 32
-      → has_place w to ≡ true → has_width w from ≡ true → HasRule rule op w to from (λ x y c. apply_op op w (apply_op op w x y) (one_if c)) → H d l image p start blocks q m
-      → E d l image p start blocks (carry d image op rule w to from next q) (carry_of op rule w to from next choice m)
-  carry_ends op rule w to from next choice q m fixed less place value has h =
+  pub carry_ends : (op : Op) (rule : FlagRule) (w : Width) (to from : Operand) (next : ℕ) (choice : Choice) (q : Path D) (m : MachineState) → next < 2 ^ 32
+      → has_place w to ≡ true → has_width w from ≡ true → HasRule rule op w to from (λ x y c. apply_op op w (apply_op op w x y) (one_if c)) → H d l image p blocks q m
+      → E d l image p blocks (carry d image op rule w to from next q) (carry_of op rule w to from next choice m)
+  carry_ends op rule w to from next choice q m less place value has h =
       both_ends op w to from q m _ _ (place_has_width w to place) value h
-      (λ v u x y read. written_ends rule op w to from (λ x y c. apply_op op w (apply_op op w x y) (one_if c)) v u _ x y next choice q m fixed less place has h read (carried_stands op w to from v u x y q m h read))
+      (λ v u x y read. written_ends rule op w to from (λ x y c. apply_op op w (apply_op op w x y) (one_if c)) v u _ x y next choice q m less place has h read (carried_stands op w to from v u x y q m h read))
 
   -- ---- the rules of the operators
 
@@ -395,13 +394,13 @@ module _ {D : Type 0} (d : Values D) (l : IsLawful d) (image : Image) (p : Place
   -- ---- comparisons, and their notes
 
   -- a number that a value is said to be is the one that it stands for
-  told : (w : Width) (v : D) (x c : ℕ) (q : Path D) (m : MachineState) → H d l image p start blocks q m → S d l image p start blocks w v x → d.number_of v ≡ Some c → x ≡ c
+  told : (w : Width) (v : D) (x c : ℕ) (q : Path D) (m : MachineState) → H d l image p blocks q m → S d l image p blocks w v x → d.number_of v ≡ Some c → x ≡ c
   told w v x c q m h s e = l.number_of_alone v c p x h.describes.fits.valid e s.stands
 
   -- what CMP compares with is what its second operand holds
-  compared_told : (w : Width) (left right : Operand) (v u : D) (x y c : ℕ) (q : Path D) (m : MachineState) → H d l image p start blocks q m → AreRead Sub w left right m v u x y
+  compared_told : (w : Width) (left right : Operand) (v u : D) (x y c : ℕ) (q : Path D) (m : MachineState) → H d l image p blocks q m → AreRead Sub w left right m v u x y
       → d.number_of (compared_with d image.align right u q.state) ≡ Some c → y ≡ c
-  compared_told w left (Register z r) v u x y c q m h read e = read.right_read ∙ told z _ _ c q m h (part_stands d l image p start blocks z r q m h) e
+  compared_told w left (Register z r) v u x y c q m h read e = read.right_read ∙ told z _ _ c q m h (part_stands d l image p blocks z r q m h) e
   compared_told w left (Number z n) v u x y c q m h read e = elim read.either [
     | inl each ↦ told w u y c q m h each.right e
     | inr twice ↦ absurd (no_number left z n twice.twice)
@@ -456,14 +455,14 @@ module _ {D : Type 0} (d : Values D) (l : IsLawful d) (image : Image) (p : Place
   word_noted a x reach o m f inside bytes word reached then = nothing_noted _
 
   -- the note of a comparison of a first operand that was read as x
-  noted_stands : (left : Operand) (x : ℕ) (o : Option ℕ) (q : Path D) (m : MachineState) (f : Flags) → H d l image p start blocks q m → IsRead d l image p start blocks left m x
+  noted_stands : (left : Operand) (x : ℕ) (o : Option ℕ) (q : Path D) (m : MachineState) (f : Flags) → H d l image p blocks q m → IsRead d l image p blocks left m x
       → (width_of left ≡ B32 → (c : ℕ) → o ≡ Some c → (c < 2 ^ 32) × AreOfComparison x c f) → IsNoted (noted d image.align left o q.state) (with_flags_of f m)
   unfolding register_of
   noted_stands (Register B32 r) x o q m f h read then =
       register_noted r o (with_flags_of f m) (λ c e. let k = then refl c e in (k.0, subst (λ n. AreOfComparison n c f) read k.1))
   noted_stands (Memory B32 a) x o q m f h read then =
       word_noted (address_of a m) x (d.reach (address_value d image.align a q.state)) o m f h.describes.fits.inside h.describes.fits.bytes read
-      (l.reach_holds _ p _ h.describes.fits.valid (address_stands d l image p start blocks a q m h).stands) (then refl)
+      (l.reach_holds _ p _ h.describes.fits.valid (address_stands d l image p blocks a q m h).stands) (then refl)
   noted_stands left x o q m f h read then = nothing_noted _
 
   -- the flags of a comparison are those of CMP
@@ -490,14 +489,14 @@ module _ {D : Type 0} (d : Values D) (l : IsLawful d) (image : Image) (p : Place
       }
 
   compared_ends : (rule : FlagRule) (w : Width) (v u value : D) (x y z next : ℕ) (note : Option Note) (choice : Choice) (q : Path D) (m : MachineState) → next < 2 ^ 32
-      → FlagsStand (ruled_truths d image.align rule w v u value q.state.flags) (flags_after rule w x y z choice m.flags) → IsNoted note (with_flags_of (flags_after rule w x y z choice m.flags) m) → H d l image p start blocks q m
-      → E d l image p start blocks (lands next (on_state (λ s. with_note note (with_ruled d image.align rule w v u value s)) q)) (flagged_of rule w x y z next choice m)
+      → FlagsStand (ruled_truths d image.align rule w v u value q.state.flags) (flags_after rule w x y z choice m.flags) → IsNoted note (with_flags_of (flags_after rule w x y z choice m.flags) m) → H d l image p blocks q m
+      → E d l image p blocks (lands next (on_state (λ s. with_note note (with_ruled d image.align rule w v u value s)) q)) (flagged_of rule w x y z next choice m)
   compared_ends rule w v u value x y z next note choice q m less flags noted h =
-      lands_ends d l image p start blocks next _ _ less (noted_holds d l image p start blocks _ note _ q m flags noted.well noted.stands h)
+      lands_ends d l image p blocks next _ _ less (noted_holds d l image p blocks _ note _ q m flags noted.well noted.stands h)
 
   -- CMP
-  pub compare_ends : (left right : Operand) (w : Width) (next : ℕ) (choice : Choice) (q : Path D) (m : MachineState) → next < 2 ^ 32 → has_width w left ≡ true → has_width w right ≡ true → H d l image p start blocks q m
-      → E d l image p start blocks (compare d image Sub Difference w left right next q) (compare_of Sub Difference w left right next choice m)
+  pub compare_ends : (left right : Operand) (w : Width) (next : ℕ) (choice : Choice) (q : Path D) (m : MachineState) → next < 2 ^ 32 → has_width w left ≡ true → has_width w right ≡ true → H d l image p blocks q m
+      → E d l image p blocks (compare d image Sub Difference w left right next q) (compare_of Sub Difference w left right next choice m)
   compare_ends left right w next choice q m less is also h =
       both_ends Sub w left right q m _ _ is also h (λ v u x y read.
       compared_ends Difference w v u _ x y _ next (note_of d image.align Sub left right u q.state) choice q m less
@@ -511,8 +510,8 @@ module _ {D : Type 0} (d : Values D) (l : IsLawful d) (image : Image) (p : Place
       h)
 
   -- TEST
-  pub test_ends : (left right : Operand) (w : Width) (next : ℕ) (choice : Choice) (q : Path D) (m : MachineState) → next < 2 ^ 32 → has_width w left ≡ true → has_width w right ≡ true → H d l image p start blocks q m
-      → E d l image p start blocks (compare d image And Logic w left right next q) (compare_of And Logic w left right next choice m)
+  pub test_ends : (left right : Operand) (w : Width) (next : ℕ) (choice : Choice) (q : Path D) (m : MachineState) → next < 2 ^ 32 → has_width w left ≡ true → has_width w right ≡ true → H d l image p blocks q m
+      → E d l image p blocks (compare d image And Logic w left right next q) (compare_of And Logic w left right next choice m)
   test_ends left right w next choice q m less is also h =
       both_ends And w left right q m _ _ is also h (λ v u x y read.
       compared_ends Logic w v u _ x y _ next (note_of d image.align And left right u q.state) choice q m less

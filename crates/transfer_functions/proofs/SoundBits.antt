@@ -83,47 +83,47 @@ status_is t f e h =
     ∙ ap (λ b. 2 + one_if f.carry + 4 * one_if f.parity + 16 * one_if f.adjust + 64 * one_if b + 128 * one_if (is_yes t.sign)) zero
     ∙ ap (λ b. 2 + one_if f.carry + 4 * one_if f.parity + 16 * one_if f.adjust + 64 * one_if f.zero + 128 * one_if b) sign
 
-module _ {D : Type 0} (d : Values D) (l : IsLawful d) (image : Image) (p : Places) (start : MachineState) (blocks : List Counted) where
-  pub change_flag_ends : (change : FlagChange) (next : ℕ) (q : Path D) (m : MachineState) → next < 2 ^ 32 → H d l image p start blocks q m
-      → E d l image p start blocks (change_flag change next q) (change_flag_of change next m)
+module _ {D : Type 0} (d : Values D) (l : IsLawful d) (image : Image) (p : Places) (blocks : List Counted) where
+  pub change_flag_ends : (change : FlagChange) (next : ℕ) (q : Path D) (m : MachineState) → next < 2 ^ 32 → H d l image p blocks q m
+      → E d l image p blocks (change_flag change next q) (change_flag_of change next m)
   change_flag_ends FlipCarry next q m less h =
-      lands_ends d l image p start blocks next _ _ less (with_flags_holds d l image p start blocks _ _ q m
+      lands_ends d l image p blocks next _ _ less (with_flags_holds d l image p blocks _ _ q m
       (with_carry q.state.flags m.flags _ _ (opposite_stands _ _ h.describes.flags.carry) h.describes.flags) h)
   change_flag_ends ClearCarry next q m less h =
-      lands_ends d l image p start blocks next _ _ less (with_flags_holds d l image p start blocks _ _ q m (with_carry q.state.flags m.flags No false refl h.describes.flags) h)
+      lands_ends d l image p blocks next _ _ less (with_flags_holds d l image p blocks _ _ q m (with_carry q.state.flags m.flags No false refl h.describes.flags) h)
   change_flag_ends SetCarry next q m less h =
-      lands_ends d l image p start blocks next _ _ less (with_flags_holds d l image p start blocks _ _ q m (with_carry q.state.flags m.flags Yes true refl h.describes.flags) h)
+      lands_ends d l image p blocks next _ _ less (with_flags_holds d l image p blocks _ _ q m (with_carry q.state.flags m.flags Yes true refl h.describes.flags) h)
   change_flag_ends ClearDirection next q m less h =
-      lands_ends d l image p start blocks next _ _ less (noted_holds d l image p start blocks _ q.state.note _ q m
+      lands_ends d l image p blocks next _ _ less (noted_holds d l image p blocks _ q.state.note _ q m
       (with_direction q.state.flags m.flags No false refl h.describes.flags) h.well.note (direction_note q.state.note p m false h.describes.note) h)
   change_flag_ends SetDirection next q m less h =
-      lands_ends d l image p start blocks next _ _ less (noted_holds d l image p start blocks _ q.state.note _ q m
+      lands_ends d l image p blocks next _ _ less (noted_holds d l image p blocks _ q.state.note _ q m
       (with_direction q.state.flags m.flags Yes true refl h.describes.flags) h.well.note (direction_note q.state.note p m true h.describes.note) h)
 
-  byte_stands : (t : Truths) (q : Path D) (m : MachineState) → FlagsStand t m.flags → H d l image p start blocks q m → S d l image p start blocks B8 (status_value d t) (status_byte m.flags)
+  byte_stands : (t : Truths) (q : Path D) (m : MachineState) → FlagsStand t m.flags → H d l image p blocks q m → S d l image p blocks B8 (status_value d t) (status_byte m.flags)
   byte_stands t q m flags h =
-      elim (has_status t) as (λ b. has_status t ≡ b → S d l image p start blocks B8 (cond b (d.number (status_byte (flags_set t))) d.any) (status_byte m.flags)) [
+      elim (has_status t) as (λ b. has_status t ≡ b → S d l image p blocks B8 (cond b (d.number (status_byte (flags_set t))) d.any) (status_byte m.flags)) [
         | true ↦ λ e.
-            subst (S d l image p start blocks B8 (d.number (status_byte (flags_set t)))) (status_is t m.flags e flags)
-            (number_known d l image p start blocks B8 (status_byte (flags_set t)) q m h (status_fits (flags_set t)))
-        | false ↦ λ e. any_known d l image p start blocks B8 (status_byte m.flags) q m h (status_fits m.flags)
+            subst (S d l image p blocks B8 (d.number (status_byte (flags_set t)))) (status_is t m.flags e flags)
+            (number_known d l image p blocks B8 (status_byte (flags_set t)) q m h (status_fits (flags_set t)))
+        | false ↦ λ e. any_known d l image p blocks B8 (status_byte m.flags) q m h (status_fits m.flags)
       ] refl
 
   -- LAHF
-  pub load_status_ends : (next : ℕ) (q : Path D) (m : MachineState) → next < 2 ^ 32 → H d l image p start blocks q m → E d l image p start blocks (load_status d image next q) (load_status_of next m)
+  pub load_status_ends : (next : ℕ) (q : Path D) (m : MachineState) → next < 2 ^ 32 → H d l image p blocks q m → E d l image p blocks (load_status d image next q) (load_status_of next m)
   load_status_ends next q m less h =
-      lands_ends d l image p start blocks next _ _ less
-      (with_part_holds d l image p start blocks B8 AH _ _ q m (byte_stands q.state.flags q m h.describes.flags h) h)
+      lands_ends d l image p blocks next _ _ less
+      (with_part_holds d l image p blocks B8 AH _ _ q m (byte_stands q.state.flags q m h.describes.flags h) h)
 
   -- SAHF
-  status_flags_stand : (q : Path D) (m : MachineState) → H d l image p start blocks q m
+  status_flags_stand : (q : Path D) (m : MachineState) → H d l image p blocks q m
       → FlagsStand (ruled_truths d image.align Status B8 (part d image.align B8 AH q.state) (d.number 0) (d.number 0) q.state.flags) (ruled Status B8 (part_of B8 AH m) 0 0 m.flags)
   status_flags_stand q m h =
       let fits = h.describes.fits in
-      let own = part_stands d l image p start blocks B8 AH q m h in
+      let own = part_stands d l image p blocks B8 AH q m h in
       let P : ℕ → Type 0 = λ k. FlagsStand (ruled_truths d k Status B8 (part d image.align B8 AH q.state) (d.number 0) (d.number 0) q.state.flags) (ruled Status B8 (part_of B8 AH m) 0 0 m.flags) in
       subst P fits.align (status_stands d l p fits.valid B8 _ _ _ (part_of B8 AH m) 0 0 q.state.flags m.flags own.stands h.describes.flags)
 
-  pub store_status_ends : (next : ℕ) (q : Path D) (m : MachineState) → next < 2 ^ 32 → H d l image p start blocks q m → E d l image p start blocks (store_status d image next q) (store_status_of next m)
+  pub store_status_ends : (next : ℕ) (q : Path D) (m : MachineState) → next < 2 ^ 32 → H d l image p blocks q m → E d l image p blocks (store_status d image next q) (store_status_of next m)
   store_status_ends next q m less h =
-      lands_ends d l image p start blocks next _ _ less (with_flags_holds d l image p start blocks _ _ q m (status_flags_stand q m h) h)
+      lands_ends d l image p blocks next _ _ less (with_flags_holds d l image p blocks _ _ q m (status_flags_stand q m h) h)

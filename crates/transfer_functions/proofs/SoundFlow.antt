@@ -10,7 +10,6 @@ use Rattle.bit_words.specs.declared.op.Op.TheVariants.{Eq}
 use Rattle.bit_words.specs.Operators.{apply_op}
 use Rattle.domain_laws.specs.Laws.{Values, IsLawful}
 use Rattle.memory_map.specs.Image.{Image}
-use Rattle.memory_map.specs.Range.{code_at}
 use Rattle.memory_map.specs.State.{Flags, MachineState, memory}
 use Rattle.partitioned_memory.specs.declared.fact.Counted.{Counted}
 use Rattle.x86_syntax.specs.declared.instr.Cond.{Cond}
@@ -24,7 +23,6 @@ use Rattle.x86_semantics.specs.Moves.{above as above_of, below as below_of}
 use Rattle.x86_semantics.specs.Operands.{Ended, Next, Faulted, at_address, branch_target, next_address, reading as reading_of}
 use Rattle.x86_semantics.specs.Registers.{ECX, ESP, register as register_of, with_register as with_register_of}
 use Rattle.x86_semantics.specs.Widths.{has_width, is_target}
-use Rattle.x86_semantics.proofs.Storing.{IsFixedCode}
 use Rattle.flow_log.proofs.Members.{Contains-here, Contains-map}
 use Rattle.abstract_state.specs.declared.truth.Truth.{Truth}
 use Rattle.abstract_state.specs.declared.truth.Truth.TheVariants.{Yes, No, Unknown}
@@ -102,15 +100,15 @@ target_below at n o = omega arith
 next_below : (at n : ℕ) → next_address at n < 2 ^ 32
 next_below at n = omega arith
 
-module _ {D : Type 0} (d : Values D) (l : IsLawful d) (image : Image) (p : Places) (start : MachineState) (blocks : List Counted) (fixed : All IsFixedCode image.segments) where
+module _ {D : Type 0} (d : Values D) (l : IsLawful d) (image : Image) (p : Places) (blocks : List Counted) where
   -- ---- conditional jumps
 
-  states_among : (k : ℕ) (c : Cond) (q : Path D) (m : MachineState) → RefiningIsSound d → RefiningKeepsWell d → is_met c m.flags ≡ true → H d l image p start blocks q m
-      → IsAmong d l image p start blocks (states_where d image k c q.state) m
+  states_among : (k : ℕ) (c : Cond) (q : Path D) (m : MachineState) → RefiningIsSound d → RefiningKeepsWell d → is_met c m.flags ≡ true → H d l image p blocks q m
+      → IsAmong d l image p blocks (states_where d image k c q.state) m
   states_among k c q m sound keeps met h =
       let s = q.state in
       let stands = met_stands c s.flags m.flags h.describes.flags in
-      elim (truth_met c s.flags) as (λ t. truth_met c s.flags ≡ t → StandsFor t (is_met c m.flags) → IsAmong d l image p start blocks (states_by d image k t c s) m) [
+      elim (truth_met c s.flags) as (λ t. truth_met c s.flags ≡ t → StandsFor t (is_met c m.flags) → IsAmong d l image p blocks (states_by d image k t c s) m) [
         | Yes ↦ λ e k. record { state = s; there = Contains-here s []; well = h.well; describes = h.describes }
         | No ↦ λ e k. absurd (both_ways (is_met c m.flags) k met)
         | Unknown ↦ λ e _.
@@ -118,18 +116,18 @@ module _ {D : Type 0} (d : Values D) (l : IsLawful d) (image : Image) (p : Place
             record { state = r.0; there = r.1; well = keeps image k c s r.0 h.well r.1; describes = r.2 }
       ] refl stands
 
-  pub jump_ends : (k : ℕ) (c : Cond) (offset : ℤ) (n : ℕ) (q : Path D) (m : MachineState) → RefiningIsSound d → RefiningKeepsWell d → H d l image p start blocks q m
-      → E d l image p start blocks (jump d image k c offset m.eip n q) (jump_of c offset n m)
+  pub jump_ends : (k : ℕ) (c : Cond) (offset : ℤ) (n : ℕ) (q : Path D) (m : MachineState) → RefiningIsSound d → RefiningKeepsWell d → H d l image p blocks q m
+      → E d l image p blocks (jump d image k c offset m.eip n q) (jump_of c offset n m)
   jump_ends k c offset n q m sound keeps h =
       let taken = branch_target m.eip n offset in
       let past = next_address m.eip n in
-      elim (is_met c m.flags) as (λ b. is_met c m.flags ≡ b → E d l image p start blocks (jump d image k c offset m.eip n q) (Next (at_address (cond b taken past) m))) [
+      elim (is_met c m.flags) as (λ b. is_met c m.flags ≡ b → E d l image p blocks (jump d image k c offset m.eip n q) (Next (at_address (cond b taken past) m))) [
         | true ↦ λ e.
-            joined_first d l image p start blocks (lands_each taken (states_where d image k c q.state) q) (lands_each past (states_where d image k (negated c) q.state) q) (Next (at_address taken m))
-            (lands_each_ends d l image p start blocks (states_where d image k c q.state) taken q m (target_below m.eip n offset) (states_among k c q m sound keeps e h) h)
+            joined_first d l image p blocks (lands_each taken (states_where d image k c q.state) q) (lands_each past (states_where d image k (negated c) q.state) q) (Next (at_address taken m))
+            (lands_each_ends d l image p blocks (states_where d image k c q.state) taken q m (target_below m.eip n offset) (states_among k c q m sound keeps e h) h)
         | false ↦ λ e.
-            joined_second d l image p start blocks (lands_each taken (states_where d image k c q.state) q) (lands_each past (states_where d image k (negated c) q.state) q) (Next (at_address past m))
-            (lands_each_ends d l image p start blocks (states_where d image k (negated c) q.state) past q m (next_below m.eip n) (states_among k (negated c) q m sound keeps (negated_met c m.flags ∙ ap not e) h) h)
+            joined_second d l image p blocks (lands_each taken (states_where d image k c q.state) q) (lands_each past (states_where d image k (negated c) q.state) q) (Next (at_address past m))
+            (lands_each_ends d l image p blocks (states_where d image k (negated c) q.state) past q m (next_below m.eip n) (states_among k (negated c) q m sound keeps (negated_met c m.flags ∙ ap not e) h) h)
       ] refl
 
   -- ---- targets
@@ -138,56 +136,56 @@ module _ {D : Type 0} (d : Values D) (l : IsLawful d) (image : Image) (p : Place
   abbrev Tells : Option ℕ → ℕ → Type 0
   Tells o a = (n : ℕ) → o ≡ Some n → a ≡ n
 
-  landing_told : (o : Option ℕ) (a : ℕ) (q : Path D) (m : MachineState) → Tells o a → a < 2 ^ 32 → H d l image p start blocks q m → E d l image p start blocks (landing o q) (Next (at_address a m))
-  landing_told o a q m tells less h = landing_at d l image p start blocks o a q m tells less h
+  landing_told : (o : Option ℕ) (a : ℕ) (q : Path D) (m : MachineState) → Tells o a → a < 2 ^ 32 → H d l image p blocks q m → E d l image p blocks (landing o q) (Next (at_address a m))
+  landing_told o a q m tells less h = landing_at d l image p blocks o a q m tells less h
 
-  by_value : (target : Operand) (n : ℕ) (q : Path D) (m : MachineState) (k : Option ℕ → Expanded D) (go : ℕ → Ended) → has_width B32 target ≡ true → H d l image p start blocks q m
-      → ((o : Option ℕ) (a : ℕ) → Tells o a → a < 2 ^ 32 → E d l image p start blocks (k o) (go a)) → E d l image p start blocks (reading d image q target (λ v. k (d.number_of v))) (reading_of m target go)
+  by_value : (target : Operand) (n : ℕ) (q : Path D) (m : MachineState) (k : Option ℕ → Expanded D) (go : ℕ → Ended) → has_width B32 target ≡ true → H d l image p blocks q m
+      → ((o : Option ℕ) (a : ℕ) → Tells o a → a < 2 ^ 32 → E d l image p blocks (k o) (go a)) → E d l image p blocks (reading d image q target (λ v. k (d.number_of v))) (reading_of m target go)
   by_value target n q m k go is h then =
-      reading_width d l image p start blocks fixed B32 target q m (λ v. k (d.number_of v)) go is h (λ v x s. then (d.number_of v) x (λ z e. l.number_of_alone v z p x h.describes.fits.valid e s.stands) s.fits)
+      reading_width d l image p blocks B32 target q m (λ v. k (d.number_of v)) go is h (λ v x s. then (d.number_of v) x (λ z e. l.number_of_alone v z p x h.describes.fits.valid e s.stands) s.fits)
 
-  targeting_ends : (target : Operand) (n : ℕ) (q : Path D) (m : MachineState) (k : Option ℕ → Expanded D) (go : ℕ → Ended) → is_target target ≡ true → H d l image p start blocks q m
-      → ((o : Option ℕ) (a : ℕ) → Tells o a → a < 2 ^ 32 → E d l image p start blocks (k o) (go a)) → E d l image p start blocks (targeting d image q target m.eip n k) (targeting_of m target n go)
+  targeting_ends : (target : Operand) (n : ℕ) (q : Path D) (m : MachineState) (k : Option ℕ → Expanded D) (go : ℕ → Ended) → is_target target ≡ true → H d l image p blocks q m
+      → ((o : Option ℕ) (a : ℕ) → Tells o a → a < 2 ^ 32 → E d l image p blocks (k o) (go a)) → E d l image p blocks (targeting d image q target m.eip n k) (targeting_of m target n go)
   targeting_ends (Offset o) n q m k go is h then = then _ _ (λ z e. cc) (target_below m.eip n o)
   targeting_ends (Register w r) n q m k go is h then = by_value (Register w r) n q m k go is h then
   targeting_ends (Number w x) n q m k go is h then = by_value (Number w x) n q m k go is h then
   targeting_ends (Memory w a) n q m k go is h then = by_value (Memory w a) n q m k go is h then
 
-  pub goto_ends : (target : Operand) (n : ℕ) (q : Path D) (m : MachineState) → is_target target ≡ true → H d l image p start blocks q m
-      → E d l image p start blocks (goto d image target m.eip n q) (goto_of target n m)
+  pub goto_ends : (target : Operand) (n : ℕ) (q : Path D) (m : MachineState) → is_target target ≡ true → H d l image p blocks q m
+      → E d l image p blocks (goto d image target m.eip n q) (goto_of target n m)
   goto_ends target n q m is h = targeting_ends target n q m _ _ is h (λ o a tells less. landing_told o a q m tells less h)
 
-  pub call_ends : (target : Operand) (n : ℕ) (q : Path D) (m : MachineState) → is_target target ≡ true → H d l image p start blocks q m
-      → E d l image p start blocks (call d image target m.eip n q) (call_of target n m)
+  pub call_ends : (target : Operand) (n : ℕ) (q : Path D) (m : MachineState) → is_target target ≡ true → H d l image p blocks q m
+      → E d l image p blocks (call d image target m.eip n q) (call_of target n m)
   call_ends target n q m is h =
       let next = next_address m.eip n in
       targeting_ends target n q m (λ o. pushing d image q (d.number next) (λ r. landing o r)) (λ a. pushing_of m next (λ t. Next (at_address a t))) is h (λ o a tells less.
-      pushing_ends d l image p start blocks fixed q m (d.number next) next (λ r. landing o r) (λ t. Next (at_address a t)) (number_known d l image p start blocks B32 next q m h (next_below m.eip n)) h (λ r t holds.
+      pushing_ends d l image p blocks q m (d.number next) next (λ r. landing o r) (λ t. Next (at_address a t)) (number_known d l image p blocks B32 next q m h (next_below m.eip n)) h (λ r t holds.
       landing_told o a r t tells less holds))
 
-  pub return_ends : (extra : ℕ) (q : Path D) (m : MachineState) → extra < 2 ^ 32 → H d l image p start blocks q m → E d l image p start blocks (return d image extra q) (return_of extra m)
+  pub return_ends : (extra : ℕ) (q : Path D) (m : MachineState) → extra < 2 ^ 32 → H d l image p blocks q m → E d l image p blocks (return d image extra q) (return_of extra m)
   return_ends extra q m less h =
-      let sp = register_stands d l image p start blocks ESP q m h in
-      loading_ends d l image p start blocks q m B32 _ _ _ _ h sp (λ v x s.
-      let past = above_stands d l image p start blocks fixed _ _ 4 q m (omega arith) sp h in
-      landing_ends d l image p start blocks v x _ _ s (with_register_holds d l image p start blocks ESP _ _ q m (above_stands d l image p start blocks fixed _ _ extra q m less past h) h))
+      let sp = register_stands d l image p blocks ESP q m h in
+      loading_ends d l image p blocks q m B32 _ _ _ _ h sp (λ v x s.
+      let past = above_stands d l image p blocks _ _ 4 q m (omega arith) sp h in
+      landing_ends d l image p blocks v x _ _ s (with_register_holds d l image p blocks ESP _ _ q m (above_stands d l image p blocks _ _ extra q m less past h) h))
 
   -- ---- loops
 
-  pub zero_stands : (v : D) (x : ℕ) (q : Path D) (m : MachineState) → S d l image p start blocks B32 v x → H d l image p start blocks q m → StandsFor (is_zero d image.align v) (x == 0)
+  pub zero_stands : (v : D) (x : ℕ) (q : Path D) (m : MachineState) → S d l image p blocks B32 v x → H d l image p blocks q m → StandsFor (is_zero d image.align v) (x == 0)
   zero_stands v x q m s h =
-      let e = eval_stands d l image p start blocks Eq B32 v (d.number 0) x 0 q m h s (number_known d l image p start blocks B32 0 q m h (omega arith)) in
+      let e = eval_stands d l image p blocks Eq B32 v (d.number 0) x 0 q m h s (number_known d l image p blocks B32 0 q m h (omega arith)) in
       subst (StandsFor (is_zero d image.align v)) (eq_zero B32 x s.fits) (number_stands d l p h.describes.fits.valid _ _ e.stands)
 
-  pub counting_ends : (q : Path D) (m : MachineState) (k : D → Path D → Expanded D) (go : ℕ → MachineState → Ended) → H d l image p start blocks q m
-      → ((v : D) (x : ℕ) (r : Path D) (n : MachineState) → S d l image p start blocks B32 v x → H d l image p start blocks r n → E d l image p start blocks (k v r) (go x n))
-      → E d l image p start blocks (counting_down d image q k) (counting_down_of m go)
+  pub counting_ends : (q : Path D) (m : MachineState) (k : D → Path D → Expanded D) (go : ℕ → MachineState → Ended) → H d l image p blocks q m
+      → ((v : D) (x : ℕ) (r : Path D) (n : MachineState) → S d l image p blocks B32 v x → H d l image p blocks r n → E d l image p blocks (k v r) (go x n))
+      → E d l image p blocks (counting_down d image q k) (counting_down_of m go)
   counting_ends q m k go h then =
-      let count = below_stands d l image p start blocks fixed _ _ 1 q m (omega arith) (register_stands d l image p start blocks ECX q m h) h in
-      then _ _ _ _ count (with_register_holds d l image p start blocks ECX _ _ q m count h)
+      let count = below_stands d l image p blocks _ _ 1 q m (omega arith) (register_stands d l image p blocks ECX q m h) h in
+      then _ _ _ _ count (with_register_holds d l image p blocks ECX _ _ q m count h)
 
-  pub loop_ends : (kind : Looping) (offset : ℤ) (n : ℕ) (q : Path D) (m : MachineState) → H d l image p start blocks q m
-      → E d l image p start blocks (loop d image kind offset m.eip n q) (loop_of kind offset n m)
+  pub loop_ends : (kind : Looping) (offset : ℤ) (n : ℕ) (q : Path D) (m : MachineState) → H d l image p blocks q m
+      → E d l image p blocks (loop d image kind offset m.eip n q) (loop_of kind offset n m)
   loop_ends kind offset n q m h =
       let taken = branch_target m.eip n offset in
       let past = next_address m.eip n in
@@ -197,11 +195,11 @@ module _ {D : Type 0} (d : Values D) (l : IsLawful d) (image : Image) (p : Place
       let z = zero_stands v x r t s holds in
       let f = opposite_stands _ _ (zero_meets kind r.state.flags t.flags holds.describes.flags) in
       let both = opposite_stands _ _ (either_stands (is_zero d image.align v) (opposite (meets_zero kind r.state.flags)) (x == 0) (not (meets_zero_of kind t.flags)) z f) in
-      branched_ends d l image p start blocks _ _ taken past r t (subst (StandsFor (opposite (either (is_zero d image.align v) (opposite (meets_zero kind r.state.flags))))) (either_not (x == 0) (meets_zero_of kind t.flags)) both)
+      branched_ends d l image p blocks _ _ taken past r t (subst (StandsFor (opposite (either (is_zero d image.align v) (opposite (meets_zero kind r.state.flags))))) (either_not (x == 0) (meets_zero_of kind t.flags)) both)
       (target_below m.eip n offset) (next_below m.eip n) holds)
 
-  pub jump_if_no_count_ends : (offset : ℤ) (n : ℕ) (q : Path D) (m : MachineState) → H d l image p start blocks q m
-      → E d l image p start blocks (jump_if_no_count d image offset m.eip n q) (jump_if_no_count_of offset n m)
+  pub jump_if_no_count_ends : (offset : ℤ) (n : ℕ) (q : Path D) (m : MachineState) → H d l image p blocks q m
+      → E d l image p blocks (jump_if_no_count d image offset m.eip n q) (jump_if_no_count_of offset n m)
   jump_if_no_count_ends offset n q m h =
-      let count = register_stands d l image p start blocks ECX q m h in
-      branched_ends d l image p start blocks _ _ _ _ q m (zero_stands _ _ q m count h) (target_below m.eip n offset) (next_below m.eip n) h
+      let count = register_stands d l image p blocks ECX q m h in
+      branched_ends d l image p blocks _ _ _ _ q m (zero_stands _ _ q m count h) (target_below m.eip n offset) (next_below m.eip n) h

@@ -98,31 +98,31 @@ unfolding divided_of quotients
 divided_is true w y m = ap (cond (cut w y == 0) None) (chosen_state w m _ _ _)
 divided_is false w y m = ap (cond (cut w y == 0) None) (chosen_state w m _ _ _)
 
-module _ {D : Type 0} (d : Values D) (l : IsLawful d) (image : Image) (p : Places) (start : MachineState) (blocks : List Counted) where
+module _ {D : Type 0} (d : Values D) (l : IsLawful d) (image : Image) (p : Places) (blocks : List Counted) where
   -- ---- products
 
-  exact_stands : (op : Op) (w : Width) (a b : Option ℕ) (x y : ℕ) (q : Path D) (m : MachineState) → ((n : ℕ) → a ≡ Some n → x ≡ n) → ((n : ℕ) → b ≡ Some n → y ≡ n) → H d l image p start blocks q m
-      → S d l image p start blocks w (exact d op w a b) (apply_op op w x y)
-  exact_stands op w None b x y q m tells also h = any_known d l image p start blocks w _ q m h (apply-lt op w x y)
-  exact_stands op w (Some i) None x y q m tells also h = any_known d l image p start blocks w _ q m h (apply-lt op w x y)
+  exact_stands : (op : Op) (w : Width) (a b : Option ℕ) (x y : ℕ) (q : Path D) (m : MachineState) → ((n : ℕ) → a ≡ Some n → x ≡ n) → ((n : ℕ) → b ≡ Some n → y ≡ n) → H d l image p blocks q m
+      → S d l image p blocks w (exact d op w a b) (apply_op op w x y)
+  exact_stands op w None b x y q m tells also h = any_known d l image p blocks w _ q m h (apply-lt op w x y)
+  exact_stands op w (Some i) None x y q m tells also h = any_known d l image p blocks w _ q m h (apply-lt op w x y)
   exact_stands op w (Some i) (Some j) x y q m tells also h =
-      let P : ℕ → Type 0 = λ n. S d l image p start blocks w (d.number (apply_op op w i j)) (apply_op op w n y) in
-      let Q : ℕ → Type 0 = λ n. S d l image p start blocks w (d.number (apply_op op w i j)) (apply_op op w i n) in
-      subst P (sym (tells i refl)) (subst Q (sym (also j refl)) (number_known d l image p start blocks w (apply_op op w i j) q m h (apply-lt op w i j)))
+      let P : ℕ → Type 0 = λ n. S d l image p blocks w (d.number (apply_op op w i j)) (apply_op op w n y) in
+      let Q : ℕ → Type 0 = λ n. S d l image p blocks w (d.number (apply_op op w i j)) (apply_op op w i n) in
+      subst P (sym (tells i refl)) (subst Q (sym (also j refl)) (number_known d l image p blocks w (apply_op op w i j) q m h (apply-lt op w i j)))
 
-  product_stands : (op : Op) (w : Width) (a b : D) (x y : ℕ) (q : Path D) (m : MachineState) → S d l image p start blocks w a x → S d l image p start blocks w b y → H d l image p start blocks q m
-      → S d l image p start blocks w (product d op w a b) (apply_op op w x y)
+  product_stands : (op : Op) (w : Width) (a b : D) (x y : ℕ) (q : Path D) (m : MachineState) → S d l image p blocks w a x → S d l image p blocks w b y → H d l image p blocks q m
+      → S d l image p blocks w (product d op w a b) (apply_op op w x y)
   product_stands op w a b x y q m s t h =
       let valid = h.describes.fits.valid in
       exact_stands op w (d.number_of a) (d.number_of b) x y q m (λ n e. l.number_of_alone a n p x valid e s.stands) (λ n e. l.number_of_alone b n p y valid e t.stands) h
 
-  with_long_holds : (w : Width) (low high : D) (x y : ℕ) (q : Path D) (m : MachineState) → S d l image p start blocks w low x → S d l image p start blocks w high y → H d l image p start blocks q m
-      → H d l image p start blocks (on_state (with_long d image.align w low high) q) (with_long_of w x y m)
+  with_long_holds : (w : Width) (low high : D) (x y : ℕ) (q : Path D) (m : MachineState) → S d l image p blocks w low x → S d l image p blocks w high y → H d l image p blocks q m
+      → H d l image p blocks (on_state (with_long d image.align w low high) q) (with_long_of w x y m)
   with_long_holds w low high x y q m s t h =
-      with_part_holds d l image p start blocks w (upper_register w) high y _ _ t (with_part_holds d l image p start blocks w EAX low x q m s h)
+      with_part_holds d l image p blocks w (upper_register w) high y _ _ t (with_part_holds d l image p blocks w EAX low x q m s h)
 
   flags_stand : (rule : FlagRule) (w : Width) (a b r : D) (x y z : ℕ) (q : Path D) (m : MachineState) (choice : Choice) → is_product rule ≡ true
-      → S d l image p start blocks w a x → S d l image p start blocks w b y → S d l image p start blocks w r z → H d l image p start blocks q m
+      → S d l image p blocks w a x → S d l image p blocks w b y → S d l image p blocks w r z → H d l image p blocks q m
       → FlagsStand (ruled_truths d image.align rule w a b r q.state.flags) (flags_after rule w x y z choice m.flags)
   flags_stand rule w a b r x y z q m choice is s t value h =
       let fits = h.describes.fits in
@@ -131,89 +131,89 @@ module _ {D : Type 0} (d : Values D) (l : IsLawful d) (image : Image) (p : Place
       (record { stands = value.stands; fits = value.fits }) (product_result rule w x y z m.flags is) h.describes.flags)
 
   product_ends : (rule : FlagRule) (w : Width) (a b r : D) (x y z next : ℕ) (choice : Choice) (q : Path D) (m : MachineState) → next < 2 ^ 32 → is_product rule ≡ true
-      → S d l image p start blocks w a x → S d l image p start blocks w b y → S d l image p start blocks w r z → H d l image p start blocks q m
-      → E d l image p start blocks (flagged d image rule w a b r next q) (flagged_of rule w x y z next choice m)
+      → S d l image p blocks w a x → S d l image p blocks w b y → S d l image p blocks w r z → H d l image p blocks q m
+      → E d l image p blocks (flagged d image rule w a b r next q) (flagged_of rule w x y z next choice m)
   product_ends rule w a b r x y z next choice q m less is s t value h =
-      lands_ends d l image p start blocks next _ _ less (with_flags_holds d l image p start blocks _ _ q m (flags_stand rule w a b r x y z q m choice is s t value h) h)
+      lands_ends d l image p blocks next _ _ less (with_flags_holds d l image p blocks _ _ q m (flags_stand rule w a b r x y z q m choice is s t value h) h)
 
-  pub multiply_long_ends : (high : Op) (rule : FlagRule) (w : Width) (from : Operand) (next : ℕ) (choice : Choice) (q : Path D) (m : MachineState) → next < 2 ^ 32 → is_product rule ≡ true → has_width w from ≡ true → H d l image p start blocks q m
-      → E d l image p start blocks (multiply_long d image high rule w from next q) (multiply_long_of high rule w from next choice m)
+  pub multiply_long_ends : (high : Op) (rule : FlagRule) (w : Width) (from : Operand) (next : ℕ) (choice : Choice) (q : Path D) (m : MachineState) → next < 2 ^ 32 → is_product rule ≡ true → has_width w from ≡ true → H d l image p blocks q m
+      → E d l image p blocks (multiply_long d image high rule w from next q) (multiply_long_of high rule w from next choice m)
   multiply_long_ends high rule w from next choice q m less is has h =
       let parts = and_parts (is_value from) (is_width (width_of from) w) has in
-      reading_ends d l image p start blocks from q m _ _ parts.0 h (λ b y t read.
-      let other = subst (λ z. S d l image p start blocks z b y) (same_width (width_of from) w parts.1) t in
-      let own = part_stands d l image p start blocks w EAX q m h in
+      reading_ends d l image p blocks from q m _ _ parts.0 h (λ b y t read.
+      let other = subst (λ z. S d l image p blocks z b y) (same_width (width_of from) w parts.1) t in
+      let own = part_stands d l image p blocks w EAX q m h in
       let low = product_stands Mul w _ b _ y q m own other h in
       product_ends rule w _ b _ _ y _ next choice _ _ less is own other low (with_long_holds w _ _ _ _ q m low (product_stands high w _ b _ y q m own other h) h))
 
-  pub multiply_ends : (w : Width) (r : ℕ) (left right : Operand) (next : ℕ) (choice : Choice) (q : Path D) (m : MachineState) → next < 2 ^ 32 → has_width w left ≡ true → has_width w right ≡ true → H d l image p start blocks q m
-      → E d l image p start blocks (multiply d image w r left right next q) (multiply_of w r left right next choice m)
+  pub multiply_ends : (w : Width) (r : ℕ) (left right : Operand) (next : ℕ) (choice : Choice) (q : Path D) (m : MachineState) → next < 2 ^ 32 → has_width w left ≡ true → has_width w right ≡ true → H d l image p blocks q m
+      → E d l image p blocks (multiply d image w r left right next q) (multiply_of w r left right next choice m)
   multiply_ends w r left right next choice q m less has also h =
       let first = and_parts (is_value left) (is_width (width_of left) w) has in
       let second = and_parts (is_value right) (is_width (width_of right) w) also in
-      reading_ends d l image p start blocks left q m _ _ first.0 h (λ a x s read.
-      reading_ends d l image p start blocks right q m _ _ second.0 h (λ b y t also_read.
-      let one = subst (λ z. S d l image p start blocks z a x) (same_width (width_of left) w first.1) s in
-      let other = subst (λ z. S d l image p start blocks z b y) (same_width (width_of right) w second.1) t in
+      reading_ends d l image p blocks left q m _ _ first.0 h (λ a x s read.
+      reading_ends d l image p blocks right q m _ _ second.0 h (λ b y t also_read.
+      let one = subst (λ z. S d l image p blocks z a x) (same_width (width_of left) w first.1) s in
+      let other = subst (λ z. S d l image p blocks z b y) (same_width (width_of right) w second.1) t in
       let low = product_stands Mul w a b x y q m one other h in
-      product_ends SignedProduct w a b _ x y _ next choice _ _ less refl one other low (with_part_holds d l image p start blocks w r _ _ q m low h)))
+      product_ends SignedProduct w a b _ x y _ next choice _ _ less refl one other low (with_part_holds d l image p blocks w r _ _ q m low h)))
 
   -- ---- quotients
 
   -- with no status flag known
-  freed_ends : (w : Width) (quotient remainder : D) (x y next : ℕ) (choice : Choice) (q : Path D) (m : MachineState) → next < 2 ^ 32 → S d l image p start blocks w quotient x → S d l image p start blocks w remainder y → H d l image p start blocks q m
-      → E d l image p start blocks (divided d image w quotient remainder next q) (Next (at_address next (with_flags_of (freed status_flags choice (with_long_of w x y m).flags) (with_long_of w x y m))))
+  freed_ends : (w : Width) (quotient remainder : D) (x y next : ℕ) (choice : Choice) (q : Path D) (m : MachineState) → next < 2 ^ 32 → S d l image p blocks w quotient x → S d l image p blocks w remainder y → H d l image p blocks q m
+      → E d l image p blocks (divided d image w quotient remainder next q) (Next (at_address next (with_flags_of (freed status_flags choice (with_long_of w x y m).flags) (with_long_of w x y m))))
   freed_ends w quotient remainder x y next choice q m less s t h =
       let long = with_long_holds w quotient remainder x y q m s t h in
-      let same = value_flags d l image p start blocks w (upper_register w) remainder (with_part d image.align w EAX quotient q.state) ∙ value_flags d l image p start blocks w EAX quotient q.state in
+      let same = value_flags d l image p blocks w (upper_register w) remainder (with_part d image.align w EAX quotient q.state) ∙ value_flags d l image p blocks w EAX quotient q.state in
       let before = subst (λ (t : Truths). StandsFor t.direction (with_long_of w x y m).flags.direction) same long.describes.flags.direction in
-      lands_ends d l image p start blocks next _ _ less (with_flags_holds d l image p start blocks _ _ _ _
+      lands_ends d l image p blocks next _ _ less (with_flags_holds d l image p blocks _ _ _ _
       (record { carry = tt; parity = tt; adjust = tt; zero = tt; sign = tt; overflow = tt; direction = before }) long)
 
   abbrev done_with : ℕ → Choice → MachineState → Ended
   done_with next choice n = Next (at_address next (with_flags_of (freed status_flags choice n.flags) n))
 
   -- where quotient and remainder are known to be some words, or where nothing is known of them
-  some_quotients_end : (w : Width) (o : Option (ℕ × ℕ)) (next : ℕ) (choice : Choice) (q : Path D) (m : MachineState) → next < 2 ^ 32 → AllWords w o → H d l image p start blocks q m
-      → E d l image p start blocks (divided d image w d.any d.any next q) (on_divided m (after_quotients w m o) (done_with next choice))
+  some_quotients_end : (w : Width) (o : Option (ℕ × ℕ)) (next : ℕ) (choice : Choice) (q : Path D) (m : MachineState) → next < 2 ^ 32 → AllWords w o → H d l image p blocks q m
+      → E d l image p blocks (divided d image w d.any d.any next q) (on_divided m (after_quotients w m o) (done_with next choice))
   some_quotients_end w None next choice q m less words h = tt
   some_quotients_end w (Some both) next choice q m less words h =
       let k = words both refl in
-      freed_ends w d.any d.any both.0 both.1 next choice q m less (any_known d l image p start blocks w both.0 q m h k.first) (any_known d l image p start blocks w both.1 q m h k.second) h
+      freed_ends w d.any d.any both.0 both.1 next choice q m less (any_known d l image p blocks w both.0 q m h k.first) (any_known d l image p blocks w both.1 q m h k.second) h
 
-  known_quotients_end : (w : Width) (o : Option (ℕ × ℕ)) (next : ℕ) (choice : Choice) (q : Path D) (m : MachineState) → next < 2 ^ 32 → AllWords w o → H d l image p start blocks q m
-      → E d l image p start blocks (on_quotients d image o w next q) (on_divided m (after_quotients w m o) (done_with next choice))
+  known_quotients_end : (w : Width) (o : Option (ℕ × ℕ)) (next : ℕ) (choice : Choice) (q : Path D) (m : MachineState) → next < 2 ^ 32 → AllWords w o → H d l image p blocks q m
+      → E d l image p blocks (on_quotients d image o w next q) (on_divided m (after_quotients w m o) (done_with next choice))
   known_quotients_end w None next choice q m less words h = tt
   known_quotients_end w (Some both) next choice q m less words h =
       let k = words both refl in
-      freed_ends w _ _ both.0 both.1 next choice q m less (number_known d l image p start blocks w both.0 q m h k.first) (number_known d l image p start blocks w both.1 q m h k.second) h
+      freed_ends w _ _ both.0 both.1 next choice q m less (number_known d l image p blocks w both.0 q m h k.first) (number_known d l image p blocks w both.1 q m h k.second) h
 
   halves_end : (signed : Bool) (w : Width) (a b : Option ℕ) (high low by next : ℕ) (choice : Choice) (q : Path D) (m : MachineState) → next < 2 ^ 32 → (cut w by == 0) ≡ false
-      → ((n : ℕ) → a ≡ Some n → high ≡ n) → ((n : ℕ) → b ≡ Some n → low ≡ n) → H d l image p start blocks q m
-      → E d l image p start blocks (divide_halves d image signed w by a b next q) (on_divided m (after_quotients w m (quotients signed w high low by)) (done_with next choice))
+      → ((n : ℕ) → a ≡ Some n → high ≡ n) → ((n : ℕ) → b ≡ Some n → low ≡ n) → H d l image p blocks q m
+      → E d l image p blocks (divide_halves d image signed w by a b next q) (on_divided m (after_quotients w m (quotients signed w high low by)) (done_with next choice))
   halves_end signed w None b high low by next choice q m less some tells also h = some_quotients_end w _ next choice q m less (quotient_words signed w high low by some) h
   halves_end signed w (Some i) None high low by next choice q m less some tells also h = some_quotients_end w _ next choice q m less (quotient_words signed w high low by some) h
   halves_end signed w (Some i) (Some j) high low by next choice q m less some tells also h =
-      let P : ℕ → Type 0 = λ n. E d l image p start blocks (divide_halves d image signed w by (Some i) (Some j) next q) (on_divided m (after_quotients w m (quotients signed w n low by)) (done_with next choice)) in
-      let Q : ℕ → Type 0 = λ n. E d l image p start blocks (divide_halves d image signed w by (Some i) (Some j) next q) (on_divided m (after_quotients w m (quotients signed w i n by)) (done_with next choice)) in
+      let P : ℕ → Type 0 = λ n. E d l image p blocks (divide_halves d image signed w by (Some i) (Some j) next q) (on_divided m (after_quotients w m (quotients signed w n low by)) (done_with next choice)) in
+      let Q : ℕ → Type 0 = λ n. E d l image p blocks (divide_halves d image signed w by (Some i) (Some j) next q) (on_divided m (after_quotients w m (quotients signed w i n by)) (done_with next choice)) in
       subst P (sym (tells i refl)) (subst Q (sym (also j refl)) (known_quotients_end w (quotients signed w i j by) next choice q m less (quotient_words signed w i j by some) h))
 
-  divide_by_end : (signed : Bool) (w : Width) (o : Option ℕ) (y next : ℕ) (choice : Choice) (q : Path D) (m : MachineState) → next < 2 ^ 32 → ((n : ℕ) → o ≡ Some n → y ≡ n) → H d l image p start blocks q m
-      → E d l image p start blocks (divide_by d image signed w o next q)
+  divide_by_end : (signed : Bool) (w : Width) (o : Option ℕ) (y next : ℕ) (choice : Choice) (q : Path D) (m : MachineState) → next < 2 ^ 32 → ((n : ℕ) → o ≡ Some n → y ≡ n) → H d l image p blocks q m
+      → E d l image p blocks (divide_by d image signed w o next q)
       (on_divided m (cond (cut w y == 0) None (after_quotients w m (quotients signed w (part_of w (upper_register w) m) (part_of w EAX m) y))) (done_with next choice))
   divide_by_end signed w None y next choice q m less tells h =
-      elim (cut w y == 0) as (λ b. (cut w y == 0) ≡ b → E d l image p start blocks (divide_by d image signed w None next q)
+      elim (cut w y == 0) as (λ b. (cut w y == 0) ≡ b → E d l image p blocks (divide_by d image signed w None next q)
       (on_divided m (cond b None (after_quotients w m (quotients signed w (part_of w (upper_register w) m) (part_of w EAX m) y))) (done_with next choice))) [
         | true ↦ λ e. tt
         | false ↦ λ e. some_quotients_end w _ next choice q m less (quotient_words signed w (part_of w (upper_register w) m) (part_of w EAX m) y e) h
       ] refl
   divide_by_end signed w (Some by) y next choice q m less tells h =
-      let upper = part_stands d l image p start blocks w (upper_register w) q m h in
-      let lower = part_stands d l image p start blocks w EAX q m h in
+      let upper = part_stands d l image p blocks w (upper_register w) q m h in
+      let lower = part_stands d l image p blocks w EAX q m h in
       let valid = h.describes.fits.valid in
-      let P : ℕ → Type 0 = λ n. E d l image p start blocks (divide_by d image signed w (Some by) next q)
+      let P : ℕ → Type 0 = λ n. E d l image p blocks (divide_by d image signed w (Some by) next q)
       (on_divided m (cond (cut w n == 0) None (after_quotients w m (quotients signed w (part_of w (upper_register w) m) (part_of w EAX m) n))) (done_with next choice)) in
-      subst P (sym (tells by refl)) (elim (cut w by == 0) as (λ b. (cut w by == 0) ≡ b → E d l image p start blocks (cond b (ended q.writes) (divide_known d image signed w by next q))
+      subst P (sym (tells by refl)) (elim (cut w by == 0) as (λ b. (cut w by == 0) ≡ b → E d l image p blocks (cond b (ended q.writes) (divide_known d image signed w by next q))
       (on_divided m (cond b None (after_quotients w m (quotients signed w (part_of w (upper_register w) m) (part_of w EAX m) by))) (done_with next choice))) [
         | true ↦ λ e. tt
         | false ↦ λ e.
@@ -221,10 +221,10 @@ module _ {D : Type 0} (d : Values D) (l : IsLawful d) (image : Image) (p : Place
             (λ n told. l.number_of_alone _ n p _ valid told upper.stands) (λ n told. l.number_of_alone _ n p _ valid told lower.stands) h
       ] refl)
 
-  pub divide_ends : (signed : Bool) (w : Width) (by : Operand) (next : ℕ) (choice : Choice) (q : Path D) (m : MachineState) → next < 2 ^ 32 → has_width w by ≡ true → H d l image p start blocks q m
-      → E d l image p start blocks (divide d image signed w by next q) (divide_of signed w by next choice m)
+  pub divide_ends : (signed : Bool) (w : Width) (by : Operand) (next : ℕ) (choice : Choice) (q : Path D) (m : MachineState) → next < 2 ^ 32 → has_width w by ≡ true → H d l image p blocks q m
+      → E d l image p blocks (divide d image signed w by next q) (divide_of signed w by next choice m)
   divide_ends signed w by next choice q m less has h =
       let parts = and_parts (is_value by) (is_width (width_of by) w) has in
-      reading_ends d l image p start blocks by q m _ _ parts.0 h (λ v y s read.
-      let P : Option MachineState → Type 0 = λ o. E d l image p start blocks (divide_by d image signed w (d.number_of v) next q) (on_divided m o (done_with next choice)) in
+      reading_ends d l image p blocks by q m _ _ parts.0 h (λ v y s read.
+      let P : Option MachineState → Type 0 = λ o. E d l image p blocks (divide_by d image signed w (d.number_of v) next q) (on_divided m o (done_with next choice)) in
       subst P (sym (divided_is signed w y m)) (divide_by_end signed w (d.number_of v) y next choice q m less (λ n e. l.number_of_alone v n p y h.describes.fits.valid e s.stands) h))

@@ -27,7 +27,6 @@ use Rattle.x86_semantics.specs.Operands.{Ended, Next, at_address, with_flags as 
 use Rattle.x86_semantics.specs.Registers.{byte_part, put_byte_part, part as part_of, with_part as with_part_of, register as register_of, with_register as with_register_of}
 use Rattle.x86_semantics.specs.Shifts.{double_flags, double_result, double_shift as double_shift_of, double_shift_by as double_shift_by_of, joined as joined_of, shift as shift_of, shift_by as shift_by_of, shifted_flags}
 use Rattle.x86_semantics.specs.Widths.{has_place, is_count, is_place, is_value, is_width, width_of}
-use Rattle.x86_semantics.proofs.Storing.{IsFixedCode}
 use Rattle.abstract_state.specs.Expanding.{Expanded, Path, lands}
 use Rattle.abstract_state.specs.Flags.{FlagsStand}
 use Rattle.abstract_state.specs.State.{with_flags}
@@ -186,32 +185,32 @@ count_width (Number B32 n) e = cc
 count_width (Memory w a) e = cc
 count_width (Offset o) e = cc
 
-module _ {D : Type 0} (d : Values D) (l : IsLawful d) (image : Image) (p : Places) (start : MachineState) (blocks : List Counted) where
+module _ {D : Type 0} (d : Values D) (l : IsLawful d) (image : Image) (p : Places) (blocks : List Counted) where
   -- the flags of a count of 0 stay
   abbrev stays : ℕ → MachineState → Ended
   stays next n = Next (at_address next (with_flags_of n.flags n))
 
-  unshifted_ends : (w : Width) (to : Operand) (a : D) (x next : ℕ) (q : Path D) (m : MachineState) → All IsFixedCode image.segments → next < 2 ^ 32 → has_place w to ≡ true
-      → S d l image p start blocks w a x → IsRead d l image p start blocks to m x → H d l image p start blocks q m
-      → E d l image p start blocks (unshifted d image to a next q) (writing_of m to x (stays next))
-  unshifted_ends w (Register z r) a x next q m fixed less place s read h =
-      let P : MachineState → Type 0 = λ n. E d l image p start blocks (lands next q) (Next (at_address next n)) in
-      let same = ap (λ v. with_part_of z r v m) read ∙ part_itself z r m (λ k. (register_stands d l image p start blocks k q m h).fits) in
-      subst P (sym same) (lands_ends d l image p start blocks next q m less h)
-  unshifted_ends w (Memory z b) a x next q m fixed less place s read h =
+  unshifted_ends : (w : Width) (to : Operand) (a : D) (x next : ℕ) (q : Path D) (m : MachineState) → next < 2 ^ 32 → has_place w to ≡ true
+      → S d l image p blocks w a x → IsRead d l image p blocks to m x → H d l image p blocks q m
+      → E d l image p blocks (unshifted d image to a next q) (writing_of m to x (stays next))
+  unshifted_ends w (Register z r) a x next q m less place s read h =
+      let P : MachineState → Type 0 = λ n. E d l image p blocks (lands next q) (Next (at_address next n)) in
+      let same = ap (λ v. with_part_of z r v m) read ∙ part_itself z r m (λ k. (register_stands d l image p blocks k q m h).fits) in
+      subst P (sym same) (lands_ends d l image p blocks next q m less h)
+  unshifted_ends w (Memory z b) a x next q m less place s read h =
       let parts = and_parts true (is_width z w) place in
-      writing_ends d l image p start blocks (Memory z b) a x q m _ _ fixed refl (subst (λ v. S d l image p start blocks v a x) (sym (same_width z w place)) s) h
-      (λ r n holds same. lands_ends d l image p start blocks next r n less holds)
-  unshifted_ends w (Number z n) a x next q m fixed less place s read h = cc
-  unshifted_ends w (Offset o) a x next q m fixed less place s read h = cc
+      writing_ends d l image p blocks (Memory z b) a x q m _ _ refl (subst (λ v. S d l image p blocks v a x) (sym (same_width z w place)) s) h
+      (λ r n holds same. lands_ends d l image p blocks next r n less holds)
+  unshifted_ends w (Number z n) a x next q m less place s read h = cc
+  unshifted_ends w (Offset o) a x next q m less place s read h = cc
 
   -- by a value that stands for y
-  shifted_stands : (op : Op) (w : Width) (a : D) (x : ℕ) (o : Option ℕ) (y : ℕ) (q : Path D) (m : MachineState) → ((n : ℕ) → o ≡ Some n → y ≡ n) → S d l image p start blocks w a x → H d l image p start blocks q m
-      → S d l image p start blocks w (shifted d image.align op w a o) (apply_op op w x (y % 32))
-  shifted_stands op w a x None y q m tells s h = any_known d l image p start blocks w _ q m h (apply-lt op w x (y % 32))
+  shifted_stands : (op : Op) (w : Width) (a : D) (x : ℕ) (o : Option ℕ) (y : ℕ) (q : Path D) (m : MachineState) → ((n : ℕ) → o ≡ Some n → y ≡ n) → S d l image p blocks w a x → H d l image p blocks q m
+      → S d l image p blocks w (shifted d image.align op w a o) (apply_op op w x (y % 32))
+  shifted_stands op w a x None y q m tells s h = any_known d l image p blocks w _ q m h (apply-lt op w x (y % 32))
   shifted_stands op w a x (Some n) y q m tells s h =
-      subst (λ k. S d l image p start blocks w (d.eval op w a (d.number (n % 32)) image.align) (apply_op op w x (k % 32))) (sym (tells n refl))
-      (eval_stands d l image p start blocks op w a _ x (n % 32) q m h s (number_known d l image p start blocks w (n % 32) q m h (count_fits w n)))
+      subst (λ k. S d l image p blocks w (d.eval op w a (d.number (n % 32)) image.align) (apply_op op w x (k % 32))) (sym (tells n refl))
+      (eval_stands d l image p blocks op w a _ x (n % 32) q m h s (number_known d l image p blocks w (n % 32) q m h (count_fits w n)))
 
   -- a count that is 0 modulo 32 is known
   none_shifted : (o : Option ℕ) (y : ℕ) → ((n : ℕ) → o ≡ Some n → y ≡ n) → is_no_shift o ≡ true → y % 32 ≡ 0
@@ -219,42 +218,42 @@ module _ {D : Type 0} (d : Values D) (l : IsLawful d) (image : Image) (p : Place
   none_shifted (Some n) y tells e = ap (λ k. k % 32) (tells n refl) ∙ eqb-true (n % 32) 0 e
 
   flags_stand : (rule : FlagRule) (w : Width) (a b r : D) (x y z : ℕ) (q : Path D) (m : MachineState) (f : Flags) (choice : Choice) → is_counted rule ≡ true
-      → S d l image p start blocks w a x → S d l image p start blocks B8 b y → S d l image p start blocks w r z → H d l image p start blocks q m
+      → S d l image p blocks w a x → S d l image p blocks B8 b y → S d l image p blocks w r z → H d l image p blocks q m
       → FlagsStand (ruled_truths d image.align rule w a b r q.state.flags) (shifted_flags rule w x (y % 32) z choice m.flags)
   flags_stand rule w a b r x y z q m f choice is s t value h =
       let fits = h.describes.fits in
       let P : ℕ → Type 0 = λ k. FlagsStand (ruled_truths d k rule w a b r q.state.flags) (shifted_flags rule w x (y % 32) z choice m.flags) in
       subst P fits.align (counted_stand d l p fits.valid rule w a b r x y z q.state.flags m.flags choice is s.stands t.stands (record { stands = value.stands; fits = value.fits }) h.describes.flags)
 
-  shift_by_ends : (op : Op) (rule : FlagRule) (w : Width) (to : Operand) (a v : D) (x y next : ℕ) (choice : Choice) (q : Path D) (m : MachineState) → All IsFixedCode image.segments → next < 2 ^ 32
-      → is_shift op ≡ true → is_counted rule ≡ true → has_place w to ≡ true → S d l image p start blocks w a x → IsRead d l image p start blocks to m x → S d l image p start blocks B8 v y → H d l image p start blocks q m
-      → E d l image p start blocks (shift_by d image op rule w to a v next q) (shift_by_of op rule w to x (y % 32) next choice m)
-  shift_by_ends op rule w to a v x y next choice q m fixed less shifts counts place s read count h =
+  shift_by_ends : (op : Op) (rule : FlagRule) (w : Width) (to : Operand) (a v : D) (x y next : ℕ) (choice : Choice) (q : Path D) (m : MachineState) → next < 2 ^ 32
+      → is_shift op ≡ true → is_counted rule ≡ true → has_place w to ≡ true → S d l image p blocks w a x → IsRead d l image p blocks to m x → S d l image p blocks B8 v y → H d l image p blocks q m
+      → E d l image p blocks (shift_by d image op rule w to a v next q) (shift_by_of op rule w to x (y % 32) next choice m)
+  shift_by_ends op rule w to a v x y next choice q m less shifts counts place s read count h =
       let tells = λ (n : ℕ) (e : d.number_of v ≡ Some n). l.number_of_alone v n p y h.describes.fits.valid e count.stands in
       let moved : Expanded D = writing d image q to (shifted d image.align op w a (d.number_of v)) (λ r. flagged d image rule w a v (shifted d image.align op w a (d.number_of v)) next r) in
-      elim (is_no_shift (d.number_of v)) as (λ b. is_no_shift (d.number_of v) ≡ b → E d l image p start blocks (cond b (unshifted d image to a next q) moved) (shift_by_of op rule w to x (y % 32) next choice m)) [
+      elim (is_no_shift (d.number_of v)) as (λ b. is_no_shift (d.number_of v) ≡ b → E d l image p blocks (cond b (unshifted d image to a next q) moved) (shift_by_of op rule w to x (y % 32) next choice m)) [
         | true ↦ λ e.
-            let P : ℕ → Type 0 = λ c. E d l image p start blocks (unshifted d image to a next q) (shift_by_of op rule w to x c next choice m) in
-            let Q : ℕ → Type 0 = λ z. E d l image p start blocks (unshifted d image to a next q) (writing_of m to z (stays next)) in
-            subst P (sym (none_shifted (d.number_of v) y tells e)) (subst Q (sym (unmoved op w x shifts s.fits)) (unshifted_ends w to a x next q m fixed less place s read h))
+            let P : ℕ → Type 0 = λ c. E d l image p blocks (unshifted d image to a next q) (shift_by_of op rule w to x c next choice m) in
+            let Q : ℕ → Type 0 = λ z. E d l image p blocks (unshifted d image to a next q) (writing_of m to z (stays next)) in
+            subst P (sym (none_shifted (d.number_of v) y tells e)) (subst Q (sym (unmoved op w x shifts s.fits)) (unshifted_ends w to a x next q m less place s read h))
         | false ↦ λ e.
             let parts = and_parts (is_place to) (is_width (width_of to) w) place in
             let value = shifted_stands op w a x (d.number_of v) y q m tells s h in
-            let own = subst (λ z. S d l image p start blocks z (shifted d image.align op w a (d.number_of v)) (apply_op op w x (y % 32))) (sym (same_width (width_of to) w parts.1)) value in
-            writing_ends d l image p start blocks to _ _ q m _ _ fixed parts.0 own h
-            (λ r n holds same. lands_ends d l image p start blocks next _ _ less
-            (with_flags_holds d l image p start blocks _ _ r n (flags_stand rule w a v _ x y (apply_op op w x (y % 32)) r n n.flags choice counts s count value holds) holds))
+            let own = subst (λ z. S d l image p blocks z (shifted d image.align op w a (d.number_of v)) (apply_op op w x (y % 32))) (sym (same_width (width_of to) w parts.1)) value in
+            writing_ends d l image p blocks to _ _ q m _ _ parts.0 own h
+            (λ r n holds same. lands_ends d l image p blocks next _ _ less
+            (with_flags_holds d l image p blocks _ _ r n (flags_stand rule w a v _ x y (apply_op op w x (y % 32)) r n n.flags choice counts s count value holds) holds))
       ] refl
 
-  pub shift_ends : (op : Op) (rule : FlagRule) (w : Width) (to count : Operand) (next : ℕ) (choice : Choice) (q : Path D) (m : MachineState) → All IsFixedCode image.segments → next < 2 ^ 32
-      → is_shift op ≡ true → is_counted rule ≡ true → has_place w to ≡ true → is_count count ≡ true → H d l image p start blocks q m
-      → E d l image p start blocks (shift d image op rule w to count next q) (shift_of op rule w to count next choice m)
-  shift_ends op rule w to count next choice q m fixed less shifts counts place byte h =
+  pub shift_ends : (op : Op) (rule : FlagRule) (w : Width) (to count : Operand) (next : ℕ) (choice : Choice) (q : Path D) (m : MachineState) → next < 2 ^ 32
+      → is_shift op ≡ true → is_counted rule ≡ true → has_place w to ≡ true → is_count count ≡ true → H d l image p blocks q m
+      → E d l image p blocks (shift d image op rule w to count next q) (shift_of op rule w to count next choice m)
+  shift_ends op rule w to count next choice q m less shifts counts place byte h =
       let parts = and_parts (is_place to) (is_width (width_of to) w) place in
-      reading_ends d l image p start blocks to q m _ _ (place_is_value to parts.0) h (λ a x s read.
-      reading_ends d l image p start blocks count q m _ _ (count_is_value count byte) h (λ v y t also.
-      shift_by_ends op rule w to a v x y next choice q m fixed less shifts counts place
-      (subst (λ z. S d l image p start blocks z a x) (same_width (width_of to) w parts.1) s) read (subst (λ z. S d l image p start blocks z v y) (count_width count byte) t) h))
+      reading_ends d l image p blocks to q m _ _ (place_is_value to parts.0) h (λ a x s read.
+      reading_ends d l image p blocks count q m _ _ (count_is_value count byte) h (λ v y t also.
+      shift_by_ends op rule w to a v x y next choice q m less shifts counts place
+      (subst (λ z. S d l image p blocks z a x) (same_width (width_of to) w parts.1) s) read (subst (λ z. S d l image p blocks z v y) (count_width count byte) t) h))
 
   -- ---- SHLD and SHRD
 

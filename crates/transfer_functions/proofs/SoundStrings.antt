@@ -22,7 +22,6 @@ use Rattle.x86_semantics.specs.FlagRules.{flags_after}
 use Rattle.x86_semantics.specs.Operands.{Ended, Next, Faulted, at_address, segment_base}
 use Rattle.x86_semantics.specs.Registers.{EAX, ECX, EDI, ESI, register as register_of}
 use Rattle.x86_semantics.specs.Strings.{compared as compared_of, counted as counted_of, element as element_of, ends_by as ends_by_of, moved as moved_of, repeated as repeated_of, source_address, step_of, string as string_of}
-use Rattle.x86_semantics.proofs.Storing.{IsFixedCode}
 use Rattle.abstract_state.specs.declared.truth.Truth.{Truth}
 use Rattle.abstract_state.specs.declared.truth.Truth.TheVariants.{Yes, No, Unknown}
 use Rattle.abstract_state.specs.declared.flags.Truths.{Truths}
@@ -58,88 +57,88 @@ down_fits B8 = omega arith
 down_fits B16 = omega arith
 down_fits B32 = omega arith
 
-module _ {D : Type 0} (d : Values D) (l : IsLawful d) (image : Image) (p : Places) (start : MachineState) (blocks : List Counted) (fixed : All IsFixedCode image.segments) where
+module _ {D : Type 0} (d : Values D) (l : IsLawful d) (image : Image) (p : Places) (blocks : List Counted) where
   -- how far ESI and EDI move
-  step_stands : (w : Width) (t : Truth) (b : Bool) (q : Path D) (m : MachineState) → StandsFor t b → H d l image p start blocks q m → S d l image p start blocks B32 (step_by d w t) (cond b (2 ^ 32 - bytes_of w) (bytes_of w))
-  step_stands w Yes true q m stands h = number_known d l image p start blocks B32 (2 ^ 32 - bytes_of w) q m h (down_fits w)
+  step_stands : (w : Width) (t : Truth) (b : Bool) (q : Path D) (m : MachineState) → StandsFor t b → H d l image p blocks q m → S d l image p blocks B32 (step_by d w t) (cond b (2 ^ 32 - bytes_of w) (bytes_of w))
+  step_stands w Yes true q m stands h = number_known d l image p blocks B32 (2 ^ 32 - bytes_of w) q m h (down_fits w)
   step_stands w Yes false q m stands h = cc
   step_stands w No true q m stands h = cc
-  step_stands w No false q m stands h = number_known d l image p start blocks B32 (bytes_of w) q m h (up_fits w)
-  step_stands w Unknown true q m stands h = any_known d l image p start blocks B32 (2 ^ 32 - bytes_of w) q m h (down_fits w)
-  step_stands w Unknown false q m stands h = any_known d l image p start blocks B32 (bytes_of w) q m h (up_fits w)
+  step_stands w No false q m stands h = number_known d l image p blocks B32 (bytes_of w) q m h (up_fits w)
+  step_stands w Unknown true q m stands h = any_known d l image p blocks B32 (2 ^ 32 - bytes_of w) q m h (down_fits w)
+  step_stands w Unknown false q m stands h = any_known d l image p blocks B32 (bytes_of w) q m h (up_fits w)
 
-  moved_holds : (r : ℕ) (step : D) (by : ℕ) (q : Path D) (m : MachineState) → S d l image p start blocks B32 step by → H d l image p start blocks q m → H d l image p start blocks (on_state (moved d image.align r step) q) (moved_of r by m)
+  moved_holds : (r : ℕ) (step : D) (by : ℕ) (q : Path D) (m : MachineState) → S d l image p blocks B32 step by → H d l image p blocks q m → H d l image p blocks (on_state (moved d image.align r step) q) (moved_of r by m)
   moved_holds r step by q m s h =
-      with_register_holds d l image p start blocks r _ _ q m (eval_stands d l image p start blocks Add B32 _ step _ by q m h (register_stands d l image p start blocks r q m h) s) h
+      with_register_holds d l image p blocks r _ _ q m (eval_stands d l image p blocks Add B32 _ step _ by q m h (register_stands d l image p blocks r q m h) s) h
 
-  source_stands : (seg : Seg) (q : Path D) (m : MachineState) → H d l image p start blocks q m → S d l image p start blocks B32 (source_value d image.align seg q.state) (source_address seg m)
+  source_stands : (seg : Seg) (q : Path D) (m : MachineState) → H d l image p blocks q m → S d l image p blocks B32 (source_value d image.align seg q.state) (source_address seg m)
   source_stands seg q m h =
       let x = register_of ESI m in
       let base = segment_base seg m in
       let same : (base + x) % 2 ^ 32 ≡ apply_op Add B32 x base = (let sum = add_is x base in omega (arith, sum)) in
-      subst (S d l image p start blocks B32 (source_value d image.align seg q.state)) same (segment_stands d l image p start blocks seg (register_value ESI q.state) x q m (register_stands d l image p start blocks ESI q m h) h)
+      subst (S d l image p blocks B32 (source_value d image.align seg q.state)) same (segment_stands d l image p blocks seg (register_value ESI q.state) x q m (register_stands d l image p blocks ESI q m h) h)
 
-  compared_holds : (w : Width) (a b : D) (x y : ℕ) (choice : Choice) (q : Path D) (m : MachineState) → S d l image p start blocks w a x → S d l image p start blocks w b y → H d l image p start blocks q m
-      → H d l image p start blocks (on_state (compared d image.align w a b) q) (compared_of w x y choice m)
+  compared_holds : (w : Width) (a b : D) (x y : ℕ) (choice : Choice) (q : Path D) (m : MachineState) → S d l image p blocks w a x → S d l image p blocks w b y → H d l image p blocks q m
+      → H d l image p blocks (on_state (compared d image.align w a b) q) (compared_of w x y choice m)
   compared_holds w a b x y choice q m s t h =
       let f = h.describes.fits in
       let one : KnownWord d p w a x = record { stands = s.stands; fits = s.fits } in
       let two : KnownWord d p w b y = record { stands = t.stands; fits = t.fits } in
       let P : ℕ → Type 0 = λ k. FlagsStand (ruled_truths d k Difference w a b (d.eval Sub w a b k) q.state.flags) (flags_after Difference w x y (apply_op Sub w x y) choice m.flags) in
       let flags = ruled_stand d l p f.valid Difference w a b (d.eval Sub w a b p.align) x y (apply_op Sub w x y) q.state.flags m.flags choice refl one two (eval_known d l p f.valid Sub w a b x y one two) refl h.describes.flags in
-      with_flags_holds d l image p start blocks _ _ q m (subst P f.align flags) h
+      with_flags_holds d l image p blocks _ _ q m (subst P f.align flags) h
 
   -- one element
-  element_ends : (kind : StringKind) (w : Width) (seg : Seg) (choice : Choice) (q : Path D) (m : MachineState) (k : Path D → Expanded D) (go : MachineState → Ended) → H d l image p start blocks q m
-      → ((r : Path D) (n : MachineState) → H d l image p start blocks r n → E d l image p start blocks (k r) (go n))
-      → E d l image p start blocks (element d image kind w seg q k) (element_of kind w seg (step_of w m.flags) choice m go)
+  element_ends : (kind : StringKind) (w : Width) (seg : Seg) (choice : Choice) (q : Path D) (m : MachineState) (k : Path D → Expanded D) (go : MachineState → Ended) → H d l image p blocks q m
+      → ((r : Path D) (n : MachineState) → H d l image p blocks r n → E d l image p blocks (k r) (go n))
+      → E d l image p blocks (element d image kind w seg q k) (element_of kind w seg (step_of w m.flags) choice m go)
   element_ends Move w seg choice q m k go h then =
       let step = step_stands w q.state.flags.direction m.flags.direction q m h.describes.flags.direction h in
-      loading_ends d l image p start blocks q m w _ _ _ _ h (source_stands seg q m h) (λ v x s.
-      storing_ends d l image p start blocks q m w _ v _ x _ _ fixed h (register_stands d l image p start blocks EDI q m h) s (λ r n holds _.
+      loading_ends d l image p blocks q m w _ _ _ _ h (source_stands seg q m h) (λ v x s.
+      storing_ends d l image p blocks q m w _ v _ x _ _ h (register_stands d l image p blocks EDI q m h) s (λ r n holds _.
       then _ _ (moved_holds EDI _ _ _ _ step (moved_holds ESI _ _ r n step holds))))
   element_ends Compare w seg choice q m k go h then =
       let step = step_stands w q.state.flags.direction m.flags.direction q m h.describes.flags.direction h in
-      loading_ends d l image p start blocks q m w _ _ _ _ h (source_stands seg q m h) (λ a x s.
-      loading_ends d l image p start blocks q m w _ _ _ _ h (register_stands d l image p start blocks EDI q m h) (λ b y t.
+      loading_ends d l image p blocks q m w _ _ _ _ h (source_stands seg q m h) (λ a x s.
+      loading_ends d l image p blocks q m w _ _ _ _ h (register_stands d l image p blocks EDI q m h) (λ b y t.
       then _ _ (moved_holds EDI _ _ _ _ step (moved_holds ESI _ _ _ _ step (compared_holds w a b x y choice q m s t h)))))
   element_ends Store w seg choice q m k go h then =
       let step = step_stands w q.state.flags.direction m.flags.direction q m h.describes.flags.direction h in
-      storing_ends d l image p start blocks q m w _ _ _ _ _ _ fixed h (register_stands d l image p start blocks EDI q m h) (part_stands d l image p start blocks w EAX q m h) (λ r n holds _.
+      storing_ends d l image p blocks q m w _ _ _ _ _ _ h (register_stands d l image p blocks EDI q m h) (part_stands d l image p blocks w EAX q m h) (λ r n holds _.
       then _ _ (moved_holds EDI _ _ r n step holds))
   element_ends Load w seg choice q m k go h then =
       let step = step_stands w q.state.flags.direction m.flags.direction q m h.describes.flags.direction h in
-      loading_ends d l image p start blocks q m w _ _ _ _ h (source_stands seg q m h) (λ v x s.
-      then _ _ (moved_holds ESI _ _ _ _ step (with_part_holds d l image p start blocks w EAX v x q m s h)))
+      loading_ends d l image p blocks q m w _ _ _ _ h (source_stands seg q m h) (λ v x s.
+      then _ _ (moved_holds ESI _ _ _ _ step (with_part_holds d l image p blocks w EAX v x q m s h)))
   element_ends Scan w seg choice q m k go h then =
       let step = step_stands w q.state.flags.direction m.flags.direction q m h.describes.flags.direction h in
-      loading_ends d l image p start blocks q m w _ _ _ _ h (register_stands d l image p start blocks EDI q m h) (λ b y t.
-      then _ _ (moved_holds EDI _ _ _ _ step (compared_holds w _ b _ y choice q m (part_stands d l image p start blocks w EAX q m h) t h)))
+      loading_ends d l image p blocks q m w _ _ _ _ h (register_stands d l image p blocks EDI q m h) (λ b y t.
+      then _ _ (moved_holds EDI _ _ _ _ step (compared_holds w _ b _ y choice q m (part_stands d l image p blocks w EAX q m h) t h)))
 
   -- ---- repetitions
 
-  counted_ends : (repeat : Repeat) (next here : ℕ) (q : Path D) (m : MachineState) → next < 2 ^ 32 → here < 2 ^ 32 → H d l image p start blocks q m
-      → E d l image p start blocks (counted d image repeat next here q) (counted_of repeat next here m)
+  counted_ends : (repeat : Repeat) (next here : ℕ) (q : Path D) (m : MachineState) → next < 2 ^ 32 → here < 2 ^ 32 → H d l image p blocks q m
+      → E d l image p blocks (counted d image repeat next here q) (counted_of repeat next here m)
   counted_ends repeat next here q m less also h =
-      counting_ends d l image p start blocks fixed q m
+      counting_ends d l image p blocks q m
       (λ v r. branched (either (is_zero d image.align v) (ends_by repeat r.state.flags)) next here r)
       (λ x t. Next (at_address (cond ((x == 0) || ends_by_of repeat t.flags) next here) t)) h (λ v x r t s holds.
-      branched_ends d l image p start blocks _ _ next here r t
-      (either_stands (is_zero d image.align v) (ends_by repeat r.state.flags) (x == 0) (ends_by_of repeat t.flags) (zero_stands d l image p start blocks fixed v x r t s holds) (end_stands repeat r.state.flags t.flags holds.describes.flags))
+      branched_ends d l image p blocks _ _ next here r t
+      (either_stands (is_zero d image.align v) (ends_by repeat r.state.flags) (x == 0) (ends_by_of repeat t.flags) (zero_stands d l image p blocks v x r t s holds) (end_stands repeat r.state.flags t.flags holds.describes.flags))
       less also holds)
 
-  repeated_ends : (repeat : Repeat) (kind : StringKind) (w : Width) (seg : Seg) (next : ℕ) (choice : Choice) (q : Path D) (m : MachineState) → next < 2 ^ 32 → H d l image p start blocks q m
-      → E d l image p start blocks (repeated d image repeat kind w seg next m.eip q) (repeated_of repeat kind w seg next choice m)
+  repeated_ends : (repeat : Repeat) (kind : StringKind) (w : Width) (seg : Seg) (next : ℕ) (choice : Choice) (q : Path D) (m : MachineState) → next < 2 ^ 32 → H d l image p blocks q m
+      → E d l image p blocks (repeated d image repeat kind w seg next m.eip q) (repeated_of repeat kind w seg next choice m)
   repeated_ends repeat kind w seg next choice q m less h =
-      let count = register_stands d l image p start blocks ECX q m h in
-      either_ends d l image p start blocks (is_zero d image.align (register_value ECX q.state)) (register_of ECX m == 0) _ _ _ _ (zero_stands d l image p start blocks fixed _ _ q m count h)
-      (λ _. lands_ends d l image p start blocks next q m less h)
+      let count = register_stands d l image p blocks ECX q m h in
+      either_ends d l image p blocks (is_zero d image.align (register_value ECX q.state)) (register_of ECX m == 0) _ _ _ _ (zero_stands d l image p blocks _ _ q m count h)
+      (λ _. lands_ends d l image p blocks next q m less h)
       (λ _. element_ends kind w seg choice q m (counted d image repeat next m.eip) (counted_of repeat next m.eip) h (λ r n holds. counted_ends repeat next m.eip r n less h.describes.words.eip holds))
 
-  pub string_ends : (kind : StringKind) (w : Width) (seg : Seg) (repeat : Repeat) (next : ℕ) (choice : Choice) (q : Path D) (m : MachineState) → next < 2 ^ 32 → H d l image p start blocks q m
-      → E d l image p start blocks (string d image kind w seg repeat next m.eip q) (string_of kind w seg repeat next choice m)
+  pub string_ends : (kind : StringKind) (w : Width) (seg : Seg) (repeat : Repeat) (next : ℕ) (choice : Choice) (q : Path D) (m : MachineState) → next < 2 ^ 32 → H d l image p blocks q m
+      → E d l image p blocks (string d image kind w seg repeat next m.eip q) (string_of kind w seg repeat next choice m)
   string_ends kind w seg Once next choice q m less h =
-      element_ends kind w seg choice q m (λ r. lands next r) (λ n. Next (at_address next n)) h (λ r n holds. lands_ends d l image p start blocks next r n less holds)
+      element_ends kind w seg choice q m (λ r. lands next r) (λ n. Next (at_address next n)) h (λ r n holds. lands_ends d l image p blocks next r n less holds)
   string_ends kind w seg Rep next choice q m less h = repeated_ends Rep kind w seg next choice q m less h
   string_ends kind w seg Repe next choice q m less h = repeated_ends Repe kind w seg next choice q m less h
   string_ends kind w seg Repne next choice q m less h = repeated_ends Repne kind w seg next choice q m less h

@@ -9,9 +9,9 @@ use Rattle.transfer_functions.proofs.KeepingOperations.{instructions_keep_well}
 
 module _ {D : Type 0} (d : Values D) (l : IsLawful d) where
   pub instructions-are_sound : InstrIsSound d
-  instructions-are_sound image k i n choice s p m next loaded fixed well describes does none =
-      let f = instructions_are_sound d l image p k i n choice s m next fixed (refining-is_sound d l) (refining-keeps_well d l) well describes does none in
-      record { state = f.state; pair = f.pair; well = f.well; describes = f.describes; code = f.code }
+  instructions-are_sound image k i n choice s p m next loaded well describes does none =
+      let f = instructions_are_sound d l image p k i n choice s m next (refining-is_sound d l) (refining-keeps_well d l) well describes does none in
+      record { state = f.state; pair = f.pair; well = f.well; describes = f.describes }
 
   pub instructions-keep_well : InstrKeepsWell d
   instructions-keep_well image k i at n s pair loaded well held =

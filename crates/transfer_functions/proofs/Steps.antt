@@ -34,7 +34,6 @@ use Rattle.x86_semantics.specs.Memory.{word_at}
 use Rattle.x86_semantics.specs.Operands.{Ended, Next, Faulted, address_of, base_part, index_part, offset_in_segment, segment_base, at_address, with_flags as with_flags_of, on_word, reading as reading_of, writing as writing_of}
 use Rattle.x86_semantics.specs.Registers.{byte_part, put_byte_part, part as part_of, with_part as with_part_of, register as register_of, with_register as with_register_of}
 use Rattle.x86_semantics.specs.Widths.{width_of, is_place, is_value}
-use Rattle.x86_semantics.proofs.Storing.{IsFixedCode}
 use Rattle.flow_log.proofs.Members.{Contains-here}
 use Rattle.abstract_state.specs.declared.note.Note.{Note}
 use Rattle.abstract_state.specs.declared.note.Note.TheVariants as notes
@@ -110,15 +109,15 @@ address_note None p m a h = tt
 address_note (Some (notes.Register q c)) p m a h = h
 address_note (Some (notes.Word o c)) p m a h = h
 
-module _ {D : Type 0} (d : Values D) (l : IsLawful d) (image : Image) (p : Places) (start : MachineState) (blocks : List Counted) where
+module _ {D : Type 0} (d : Values D) (l : IsLawful d) (image : Image) (p : Places) (blocks : List Counted) where
   abbrev pub S : Width → D → ℕ → Type 0
-  S w v x = Stands d l image p start blocks w v x
+  S w v x = Stands d l image p blocks w v x
 
   abbrev pub H : Path D → MachineState → Type 0
-  H q m = Holds d l image p start blocks q m
+  H q m = Holds d l image p blocks q m
 
   abbrev pub E : Expanded D → Ended → Type 0
-  E x e = Ends d l image p start blocks x e
+  E x e = Ends d l image p blocks x e
 
   -- ---- values
 
@@ -214,17 +213,16 @@ module _ {D : Type 0} (d : Values D) (l : IsLawful d) (image : Image) (p : Place
           parts = e.parts;
         };
         blocks_same = h.blocks_same;
-        code = h.code;
       }
 
   -- ---- parts of registers
 
   pub part_stands : (w : Width) (r : ℕ) (q : Path D) (m : MachineState) → H q m → S w (part d image.align w r q.state) (part_of w r m)
   part_stands B8 r q m h =
-      let k = eval_stands (byte_part r) B32 _ _ _ 0 q m h (register_stands (r % 4) q m h) (number_known d l image p start blocks B32 0 q m h (omega arith)) in
+      let k = eval_stands (byte_part r) B32 _ _ _ 0 q m h (register_stands (r % 4) q m h) (number_known d l image p blocks B32 0 q m h (omega arith)) in
       record { stands = k.stands; fits = byte_fits r (register_of (r % 4) m) 0; counted = k.counted }
   part_stands B16 r q m h =
-      let k = eval_stands Low16 B32 _ _ _ 0 q m h (register_stands r q m h) (number_known d l image p start blocks B32 0 q m h (omega arith)) in
+      let k = eval_stands Low16 B32 _ _ _ 0 q m h (register_stands r q m h) (number_known d l image p blocks B32 0 q m h (omega arith)) in
       record { stands = k.stands; fits = low_word_fits (register_of r m) 0; counted = k.counted }
   part_stands B32 r q m h = register_stands r q m h
 
@@ -261,7 +259,6 @@ module _ {D : Type 0} (d : Values D) (l : IsLawful d) (image : Image) (p : Place
           parts = e.parts;
         };
         blocks_same = h.blocks_same;
-        code = h.code;
       }
 
   pub with_flags_holds : (t : Truths) (f : Flags) (q : Path D) (m : MachineState) → FlagsStand t f → H q m → H (on_state (with_flags t) q) (with_flags_of f m)
@@ -282,7 +279,6 @@ module _ {D : Type 0} (d : Values D) (l : IsLawful d) (image : Image) (p : Place
           note = address_note q.state.note p m a e.note;
           parts = e.parts;
         };
-        code = h.code;
       }
 
   pub part_flags : (w : Width) (r x : ℕ) (m : MachineState) → (with_part_of w r x m).flags ≡ m.flags
@@ -303,16 +299,16 @@ module _ {D : Type 0} (d : Values D) (l : IsLawful d) (image : Image) (p : Place
   -- ---- addresses
 
   base_stands : (b : Option ℕ) (q : Path D) (m : MachineState) → H q m → S B32 (base_value d image.align b q.state) (base_part b m)
-  base_stands None q m h = number_known d l image p start blocks B32 0 q m h (omega arith)
+  base_stands None q m h = number_known d l image p blocks B32 0 q m h (omega arith)
   base_stands (Some r) q m h = register_stands r q m h
 
   scaled_stands : (log : Option ℕ) (scale : ℕ) (v : D) (x : ℕ) (q : Path D) (m : MachineState) → IsLog log scale → S B32 v x → H q m → S B32 (scaled_value d image.align log v) (x * scale % 2 ^ 32)
-  scaled_stands None scale v x q m is k h = any_known d l image p start blocks B32 (x * scale % 2 ^ 32) q m h (omega arith)
+  scaled_stands None scale v x q m is k h = any_known d l image p blocks B32 (x * scale % 2 ^ 32) q m h (omega arith)
   scaled_stands (Some log) scale v x q m is k h =
-      subst (S B32 (d.eval Shl B32 v (d.number log) image.align)) (is.1 x) (eval_stands Shl B32 v (d.number log) x log q m h k (number_known d l image p start blocks B32 log q m h is.0))
+      subst (S B32 (d.eval Shl B32 v (d.number log) image.align)) (is.1 x) (eval_stands Shl B32 v (d.number log) x log q m h k (number_known d l image p blocks B32 log q m h is.0))
 
   index_stands : (i : Option (ℕ × ℕ)) (q : Path D) (m : MachineState) → H q m → S B32 (index_value d image.align i q.state) (index_part i m % 2 ^ 32)
-  index_stands None q m h = number_known d l image p start blocks B32 0 q m h (omega arith)
+  index_stands None q m h = number_known d l image p blocks B32 0 q m h (omega arith)
   index_stands (Some i) q m h = scaled_stands (log_of_scale i.1) i.1 (register_value i.0 q.state) (register_of i.0 m) q m (log_is i.1) (register_stands i.0 q m h) h
 
   pub offset_stands : (a : Address) (q : Path D) (m : MachineState) → H q m → S B32 (offset_value d image.align a q.state) (offset_in_segment a m)
@@ -320,7 +316,7 @@ module _ {D : Type 0} (d : Values D) (l : IsLawful d) (image : Image) (p : Place
   offset_stands a q m h =
       let both = eval_stands Add B32 _ _ _ _ q m h (base_stands a.base q m h) (index_stands a.index q m h) in
       subst (S B32 (offset_value d image.align a q.state)) (sum_is (base_part a.base m) (index_part a.index m) a.disp)
-      (eval_stands Add B32 _ (d.number (cut B32 a.disp)) _ (cut B32 a.disp) q m h both (number_known d l image p start blocks B32 (cut B32 a.disp) q m h (cut-lt B32 a.disp)))
+      (eval_stands Add B32 _ (d.number (cut B32 a.disp)) _ (cut B32 a.disp) q m h both (number_known d l image p blocks B32 (cut B32 a.disp) q m h (cut-lt B32 a.disp)))
 
   -- the place of a window with one base
   window_stands : (r : Region) (base : ℕ) (q : Path D) (m : MachineState) → has_one_base r ≡ true → HasBase p r base → base < 2 ^ 32 → H q m → S B32 (d.place r (pos 0)) base
@@ -363,16 +359,16 @@ module _ {D : Type 0} (d : Values D) (l : IsLawful d) (image : Image) (p : Place
   pub reading_ends : (o : Operand) (q : Path D) (m : MachineState) (k : D → Expanded D) (go : ℕ → Ended) → is_value o ≡ true → H q m
       → ((v : D) (x : ℕ) → S (width_of o) v x → IsRead o m x → E (k v) (go x)) → E (reading d image q o k) (reading_of m o go)
   reading_ends (Register w r) q m k go is h then = then _ _ (part_stands w r q m h) refl
-  reading_ends (Number w n) q m k go is h then = then _ _ (number_known d l image p start blocks w (cut w n) q m h (cut-lt w n)) refl
+  reading_ends (Number w n) q m k go is h then = then _ _ (number_known d l image p blocks w (cut w n) q m h (cut-lt w n)) refl
   reading_ends (Memory w a) q m k go is h then =
       only_word (word_at w (address_of a m) m) w m go k _ (λ x e v s. then v x s e)
-      (λ go. loading_ends d l image p start blocks q m w (address_value d image.align a q.state) (address_of a m) k go h (address_stands a q m h))
+      (λ go. loading_ends d l image p blocks q m w (address_value d image.align a q.state) (address_of a m) k go h (address_stands a q m h))
   reading_ends (Offset o) q m k go is h then = cc
 
-  pub writing_ends : (o : Operand) (v : D) (x : ℕ) (q : Path D) (m : MachineState) (k : Path D → Expanded D) (go : MachineState → Ended) → All IsFixedCode image.segments → is_place o ≡ true → S (width_of o) v x → H q m
+  pub writing_ends : (o : Operand) (v : D) (x : ℕ) (q : Path D) (m : MachineState) (k : Path D → Expanded D) (go : MachineState → Ended) → is_place o ≡ true → S (width_of o) v x → H q m
       → ((r : Path D) (n : MachineState) → H r n → n.flags ≡ m.flags → E (k r) (go n)) → E (writing d image q o v k) (writing_of m o x go)
-  writing_ends (Register w r) v x q m k go fixed is s h then = then _ _ (with_part_holds w r v x q m s h) (part_flags w r x m)
-  writing_ends (Memory w a) v x q m k go fixed is s h then =
-      storing_ends d l image p start blocks q m w (address_value d image.align a q.state) v (address_of a m) x k go fixed h (address_stands a q m h) s (λ r n holds after. then r n holds after.flags)
-  writing_ends (Number w n) v x q m k go fixed is s h then = cc
-  writing_ends (Offset o) v x q m k go fixed is s h then = cc
+  writing_ends (Register w r) v x q m k go is s h then = then _ _ (with_part_holds w r v x q m s h) (part_flags w r x m)
+  writing_ends (Memory w a) v x q m k go is s h then =
+      storing_ends d l image p blocks q m w (address_value d image.align a q.state) v (address_of a m) x k go h (address_stands a q m h) s (λ r n holds after. then r n holds after.flags)
+  writing_ends (Number w n) v x q m k go is s h then = cc
+  writing_ends (Offset o) v x q m k go is s h then = cc

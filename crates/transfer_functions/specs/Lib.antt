@@ -11,4 +11,5 @@ pub mod Bits
 pub mod Strings
 pub mod Following
 pub mod Post
+pub mod Fetching
 pub mod Laws

@@ -7,6 +7,7 @@ mod after;
 mod arithmetic;
 mod bit_tests;
 mod bits;
+mod code;
 mod exchanges;
 mod expand;
 mod flags;
@@ -22,5 +23,6 @@ mod strings;
 mod tests;
 mod values;
 
+pub use code::{KnownCode, known_code};
 pub use expand::expand_instr;
-pub use sound::{instructions_are_sound, instructions_keep_well};
+pub use sound::{instructions_are_sound, instructions_keep_well, known_code_is_fetched};

@@ -1,5 +1,5 @@
 ghost use Rattle.domain_laws.specs.Made.{values_of};
-ghost use Rattle.transfer_functions.specs.Laws.{InstrIsSound, InstrKeepsWell};
+ghost use Rattle.transfer_functions.specs.Laws.{InstrIsSound, InstrKeepsWell, KnownCodeIsFetched};
 
 use domain_laws::Domain;
 
@@ -12,4 +12,9 @@ pub fn instructions_are_sound<D: Domain>()
 /// Each next pair of a well state is well.
 pub fn instructions_keep_well<D: Domain>()
     ensures { InstrKeepsWell (values_of D.Domain.own D.eq) }
+{}
+
+/// Each byte of code that a state knows is the executable byte there of each machine state that it describes.
+pub fn known_code_is_fetched<D: Domain>()
+    ensures { KnownCodeIsFetched (values_of D.Domain.own D.eq) }
 {}

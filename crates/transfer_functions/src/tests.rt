@@ -6,9 +6,10 @@ ghost use Rattle.partitioned_memory.specs.declared.fact.Counted.{Counted};
 ghost use Rattle.partitioned_memory.specs.Held.{counted_more};
 ghost use Rattle.partitioned_memory.specs.Well.{MayHold};
 
+mod known_rows;
 mod rows;
 
-use crate::expand_instr;
+use crate::{KnownCode, expand_instr, known_code};
 use crate::values::{above, anything, below, low_number, number, register_value, set_register};
 use abstract_state::{Expansion, Note, Path, Seen, State, Stored, Truth, Truths};
 use address_regions::Region;
@@ -53,19 +54,26 @@ const NAMES: [(&str, u8); 8] = [
 
 // ---- the image
 
-// Each segment's address, its size, its first byte, of which the others follow, and whether it may be written.
-const SEGMENTS: [(u32, u8, u8, bool); 8] = [
-    (0x0000_1000, 16, 0x30, true),
-    (0x0804_9000, 16, 0x10, true),
-    (0x0804_9010, 16, 0x20, false),
-    (0x0804_A000, 4, 0x50, true),
-    (0x0804_A004, 4, 0x54, false),
-    (0x0804_A008, 8, 0x58, true),
-    (0x0804_A010, 16, 0x60, true),
-    (0xEFFF_FFF0, 16, 0x40, true),
+// Each segment's address, its size, its first byte, of which the others follow, and whether it may be written and executed.
+const SEGMENTS: [(u32, u8, u8, bool, bool); 12] = [
+    (0x0000_1000, 16, 0x30, true, false),
+    (0x0804_9000, 16, 0x10, true, false),
+    (0x0804_9010, 16, 0x20, false, false),
+    (0x0804_A000, 4, 0x50, true, false),
+    (0x0804_A004, 4, 0x54, false, false),
+    (0x0804_A008, 8, 0x58, true, false),
+    (0x0804_A010, 16, 0x60, true, false),
+    (0x0804_C000, 20, 0x70, true, true),
+    (0x0804_C014, 4, 0x84, false, true),
+    (0x0804_C018, 4, 0x88, true, false),
+    (0x0804_D000, 8, 0x90, true, true),
+    (0xEFFF_FFF0, 16, 0x40, true, false),
 ];
 
-fn segment(alloc: Global, low: u32, size: u8, first: u8, write: bool) -> Result<Segment, Fail> {
+// The bytes that are not known at the start.
+const UNSET: [(u32, u32); 2] = [(0x0804_9008, 2), (0x0804_D004, 2)];
+
+fn segment(alloc: Global, low: u32, size: u8, first: u8, perm: Perm) -> Result<Segment, Fail> {
     let mut bytes = Vec::new(alloc);
     for i in 0..size {
         bytes.push(first.wrapping_add(i))?;
@@ -73,21 +81,21 @@ fn segment(alloc: Global, low: u32, size: u8, first: u8, write: bool) -> Result<
     Ok(Segment {
         low,
         bytes: Bytes::from_vec(bytes),
-        perm: Perm::new(write, false),
+        perm,
     })
 }
 
 fn image(alloc: Global, format: Format) -> Result<Image, Fail> {
     let mut list = Vec::new(alloc);
-    for (low, size, first, write) in SEGMENTS {
-        list.push(segment(alloc, low, size, first, write)?)?;
+    for (low, size, first, write, execute) in SEGMENTS {
+        let perm = Perm::new(write, execute);
+        list.push(segment(alloc, low, size, first, perm)?)?;
     }
     let segments = Segments::new(list)?;
     let mut unset = Vec::new(alloc);
-    unset.push(Span {
-        low: 0x0804_9008,
-        size: 2,
-    })?;
+    for (low, size) in UNSET {
+        unset.push(Span { low, size })?;
+    }
     let image = Image::new(
         segments,
         Ranges::from_vec(unset),
@@ -715,6 +723,54 @@ fn differences<D: Domain>(alloc: Global, table: &str) -> Result<String, Fail> {
         }
     }
     Ok(out)
+}
+
+// ---- known code
+
+// The code that is known, and whether a byte that is not known ended it.
+fn code_text(alloc: Global, code: &KnownCode) -> Result<String, Fail> {
+    let mut out = String::new(alloc);
+    for b in code.bytes.as_slice() {
+        let b = *b;
+        push_between(&mut out, " ")?;
+        write!(&mut out, "{b:02X}")?;
+    }
+    if code.cut {
+        push_between(&mut out, " ")?;
+        out.push_str("cut")?;
+    }
+    Ok(out)
+}
+
+// Adds a row of known code that is not as it says, and what is known.
+fn check_code(setting: Setting<'_>, out: &mut String, row: &str) -> Result<(), Fail> {
+    let (setup, rest) = row.split_once('|').ok_or("an address")?;
+    let (at, want) = rest.split_once('|').ok_or("what is known")?;
+    let s: State<Bounded> = state_of(setting, setup)?;
+    let code = known_code(setting.image, u32::from_str_radix(at, 16)?, &s);
+    let is = code_text(setting.alloc, &code)?;
+    if is.as_str() != want {
+        let is = is.as_str();
+        write!(out, "{row}\n    is {is}\n")?;
+    }
+    Ok(())
+}
+
+#[test]
+fn code_is_known_where_its_bytes_are(rt: HostRuntime) -> Result<(), Fail> {
+    let alloc = rt.alloc();
+    let image = image(alloc, Format::Elf)?;
+    let setting = Setting {
+        alloc,
+        image: &image,
+        k: 32,
+    };
+    let mut out = String::new(alloc);
+    for line in known_rows::KNOWN.lines() {
+        check_code(setting, &mut out, line)?;
+    }
+    assert_eq!(rt; out.as_str(), "");
+    Ok(())
 }
 
 #[test]

@@ -15,7 +15,7 @@
 ///
 /// The image has the bytes 30 to 3F at 1000, 10 to 1F at 8049000 and 40 to 4F at EFFFFFF0, which may be written, and 20 to 2F at 8049010,
 /// which may not. Those at 8049008 and 8049009 are not known at the start. It has 50 to 5F and 60 to 6F at 804A000, of which 54 to 57 may not
-/// be written. The stack pointer is a multiple of 16 at the start.
+/// be written. The stack pointer is a multiple of 16 at the start. Its code is told of beside the table of known code.
 pub(super) const BOUNDED: &str = "\
 # ADD, SUB, AND, OR, XOR, INC, DEC, NEG
 eax=5;ecx=3|01 C8|next eax=8 f=000000
