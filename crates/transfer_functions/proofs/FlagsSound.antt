@@ -354,7 +354,7 @@ module _ {D : Type 0} (d : Values D) (l : IsLawful d) (p : Places) (valid : IsVa
 
   known_below : (o : Option ℕ) (w : Width) (y : ℕ) → Tells d l p valid o y → is_below w o ≡ true → nat_lt (y % 32) (bits_of w) ≡ true
   known_below None w y tells e = cc
-  known_below (Some n) w y tells e = ap (λ k. nat_lt (k % 32) (bits_of w)) (sym (tells n refl)) ∙ e
+  known_below (Some n) w y tells e = ap (λ k. nat_lt (k % 32) (bits_of w)) (tells n refl) ∙ e
 
   pub double_stand : (rule : FlagRule) (w : Width) (a b r : D) (x y z : ℕ) (t : Truths) (f : Flags) (choice : Choice) → is_double rule ≡ true
       → d.stands a p x → d.stands b p y → KnownWord d p w r z → FlagsStand t f

@@ -196,6 +196,10 @@ module _ {D : Type 0} (d : Values D) (blocks : List Counted) where
   width-within B32 B16 e = absurd (cc)
   width-within B32 B32 e = refl
 
+  -- what was read of a place of a width
+  pub place-holds : (w : Width) (o : Operand) (x : D) → has_place w o ≡ true → MayHold d blocks (width_of o) x → MayHold d blocks w x
+  place-holds w o x e h = holds-within (width_of o) w x (width-within (width_of o) w (both-right (is_place o) (is_width (width_of o) w) e)) h
+
   pub write-width : (v : Width) (to : Operand) (x : D) → is_width v (width_of to) ≡ true → MayHold d blocks v x → MayWrite d blocks to x
   write-width v to x e h = write-within v to x (width-within v (width_of to) e) h
 

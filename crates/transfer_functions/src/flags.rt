@@ -1,4 +1,4 @@
-ghost use Rattle.std.specs.Prelude.{◌≡◌, ◌-◌, ◌*◌, ◌^◌, ◌<◌, ◌≤◌, not, nat_le, ◌*ℤ◌};
+ghost use Rattle.std.specs.Prelude.{◌≡◌, ◌-◌, ◌*◌, ◌%◌, ◌^◌, ◌<◌, ◌≤◌, not, nat_le, ◌*ℤ◌};
 ghost use Rattle.bit_words.specs.Flags.{difference_flags, has_even_parity, has_sign, sum_flags, unpacked};
 ghost use Rattle.bit_words.specs.Width.{bits_of, cut, is_signed, signed_of};
 ghost use Rattle.domain_laws.specs.Made.{values_of};

@@ -6,7 +6,7 @@ returns-in-SetBit-clause-holds g c = λ blocks h k. c.eval.ensures.holds blocks 
 
 pub returns-in-ClearBit-clause-holds : goal.returns-in-ClearBit-clause-holds
 returns-in-ClearBit-clause-holds g c =
-    λ blocks h k. c.eval.ensures.holds blocks c.args.w c.args.w h (c.eval-others.ensures.holds blocks c.args.w B32 k (c.number-zero.ensures.word blocks))
+    λ blocks h k. c.eval-in-ClearBit.ensures.holds blocks c.args.w c.args.w h (c.eval-others.ensures.holds blocks c.args.w B32 k (c.number-zero.ensures.word blocks))
 
 pub returns-in-FlipBit-clause-holds : goal.returns-in-FlipBit-clause-holds
-returns-in-FlipBit-clause-holds g c = λ blocks h k. c.eval.ensures.holds blocks c.args.w c.args.w h k
+returns-in-FlipBit-clause-holds g c = λ blocks h k. c.eval-in-FlipBit.ensures.holds blocks c.args.w c.args.w h k
