@@ -76,8 +76,9 @@ module _ {D : Type 0} (d : Values D) where
       elim (is_before own (interval_of_fact f)) as (λ b. is_before own (interval_of_fact f) ≡ b → find (is_number_at d o) (take (cond (not b) (1 + prefix_len near fs) 0) (f ∷ fs)) ≡ find (is_number_at d o) (f ∷ fs)) [
         | true ↦ λ e.
             sym (find-none (is_number_at d o) (f ∷ fs) (
-            past-none o f e,
-            Every-weaker (λ g. fact_before f g ≡ true) (λ g. is_number_at d o g ≡ false) fs (λ g k. past-none o g (is_before-trans own (interval_of_fact f) (interval_of_fact g) (filled f) e k)) h.0))
+              past-none o f e,
+              Every-weaker (λ g. fact_before f g ≡ true) (λ g. is_number_at d o g ≡ false) fs (λ g k. past-none o g (is_before-trans own (interval_of_fact f) (interval_of_fact g) (filled f) e k)) h.0,
+            ))
         | false ↦ λ e. find-more (is_number_at d o) f fs (prefix_len near fs) ∙ ap (λ t. cond (is_number_at d o f) (Some f) t) (find-near o fs h.1)
       ] refl
 
