@@ -1,20 +1,19 @@
 -- Values that an expansion makes of others may be held, and written where they go.
-use Rattle.std.proofs.Common.{◌≡◌, ℕ, ◌+◌, ◌*◌, ◌<◌, ◌%◌, ◌^◌, ◌≤◌, Bool, true, false, cond, ◌&&◌, ◌||◌, ◌⊎◌, inl, inr, Option, Some, None, refl, sym, subst, arith}
-use Rattle.std.specs.Prelude.{ℤ, nat_lt, nat_le, ◌==◌, List}
-use Rattle.std.proofs.lemmas.Bool.Decides.{nat_tests}
+use Rattle.std.proofs.Common.{◌≡◌, ℕ, ◌<◌, ◌^◌, Bool, true, false, cond, ◌&&◌, ◌||◌, ◌⊎◌, inl, inr, Option, Some, None, refl, sym, subst, arith}
+use Rattle.std.specs.Prelude.{ℤ, nat_lt, List}
 use Rattle.bit_words.specs.declared.op.Op.{Op}
 use Rattle.bit_words.specs.declared.width.Width.{Width}
 use Rattle.bit_words.specs.declared.width.Width.TheVariants.{B8, B16, B32}
-use Rattle.bit_words.specs.Width.{bits_of, cut}
+use Rattle.bit_words.specs.Width.{bits_of}
 use Rattle.bit_words.specs.declared.op.Op.TheVariants.{Low8, High8, Low16}
 use Rattle.bit_words.specs.Operators.{apply_op, formula}
 use Rattle.bit_words.proofs.Laws.{apply-lt}
 use Rattle.address_regions.specs.declared.region.Region.{Region}
 use Rattle.address_regions.specs.declared.region.Region.TheVariants as regions
-use Rattle.address_regions.specs.Extents.{block_of, has_one_base}
+use Rattle.address_regions.specs.Extents.{has_one_base}
 use Rattle.domain_laws.specs.declared.reach.Reach.{Reach}
 use Rattle.domain_laws.specs.declared.reach.Reach.TheVariants as reaches
-use Rattle.domain_laws.specs.Laws.{Values, IsLawful, IsValueOf}
+use Rattle.domain_laws.specs.Laws.{Values, IsLawful}
 use Rattle.domain_laws.specs.Reached.{named}
 use Rattle.partitioned_memory.specs.declared.fact.Counted.{Counted}
 use Rattle.partitioned_memory.specs.Well.{HasCount, MayHold}

@@ -1,22 +1,20 @@
 -- The expansion of every instruction keeps states well.
-use Rattle.std.proofs.Common.{◌≡◌, ℕ, ◌<◌, ◌^◌, true, false, List, [], refl, sym, subst, arith}
+use Rattle.std.proofs.Common.{◌≡◌, ℕ, ◌<◌, ◌^◌, true, List, [], refl}
 use Rattle.std.specs.Prelude.{⊤, All, Contains}
 use Rattle.std.proofs.lemmas.Bool.{and_parts}
 use Rattle.address_regions.specs.Places.{Places}
-use Rattle.bit_words.specs.declared.width.Width.{Width}
 use Rattle.bit_words.specs.Width.{bits_of}
 use Rattle.domain_laws.specs.Laws.{Values, IsLawful}
 use Rattle.memory_map.specs.Image.{Image}
 use Rattle.memory_map.specs.Range.{HasBytes, IsInUserSpace}
 use Rattle.partitioned_memory.specs.declared.fact.Counted.{Counted}
 use Rattle.x86_syntax.specs.declared.instr.Instr.{Instr}
-use Rattle.x86_syntax.specs.declared.instr.Operand.{Operand}
 use Rattle.x86_semantics.specs.declared.operation.Operation.{Operation}
 use Rattle.x86_semantics.specs.declared.operation.Operation.TheVariants.{Combine, Carry, Compare, Move, Convert, Lea, Exchange, Shift, MultiplyLong, Multiply, Divide, Jump, Goto, Loop, JumpIfNoCount, Call, Return, Push, Pop, Leave, Set, MoveIf, Flag, LoadStatus, StoreStatus, Element, Nothing, Stop, DoubleShift, TestBit, FindBit, CompareExchange, ExchangeAdd}
 use Rattle.x86_semantics.specs.Operations.{operation_of}
 use Rattle.x86_semantics.specs.Widths.{fits_width, has_own_widths, has_place, has_width, is_count, is_place, width_of}
 use Rattle.x86_semantics.proofs.Spelled.{spelled_widths}
-use Rattle.abstract_state.specs.Expanding.{Expanded, Path, starts}
+use Rattle.abstract_state.specs.Expanding.{Path, starts}
 use Rattle.abstract_state.specs.Laws.{RefiningKeepsWell}
 use Rattle.abstract_state.specs.State.{AreSmall, IsWellState, Known}
 use Rattle.abstract_state.proofs.BridgeKeeping.{store_keeps}

@@ -10,7 +10,6 @@ use Rattle.bit_words.specs.Width.{bits_of, cut}
 use Rattle.bit_words.proofs.Laws.{cut-lt}
 use Rattle.domain_laws.specs.Laws.{Values, IsLawful}
 use Rattle.memory_map.specs.Image.{Image}
-use Rattle.memory_map.specs.State.{MachineState}
 use Rattle.partitioned_memory.specs.declared.fact.Counted.{Counted}
 use Rattle.x86_syntax.specs.declared.instr.Cond.{Cond}
 use Rattle.x86_syntax.specs.declared.instr.Instr.{Instr}

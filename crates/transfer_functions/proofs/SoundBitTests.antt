@@ -1,5 +1,5 @@
 -- Bits tested, changed and found: their expansion stands for what they do.
-use Rattle.std.proofs.Common.{◌≡◌, ℕ, ◌<◌, ◌%◌, ◌^◌, Bool, true, false, ◌==◌, cond, List, Option, Some, None, refl, sym, ap, subst, arith}
+use Rattle.std.proofs.Common.{◌≡◌, ℕ, ◌<◌, ◌%◌, ◌^◌, Bool, true, false, ◌==◌, cond, List, Option, Some, None, refl, sym, subst, arith}
 use Rattle.std.proofs.lemmas.Bool.{and_parts}
 use Rattle.address_regions.specs.Places.{Places}
 use Rattle.bit_words.specs.declared.width.Width.{Width}
@@ -33,7 +33,7 @@ use Rattle.abstract_state.proofs.Bridge.{any_known, number_known}
 use Rattle.transfer_functions.specs.Arithmetic.{flagged}
 use Rattle.transfer_functions.specs.BitTests.{bit_value, find_bit, found_bit, test_bit, with_bit}
 use Rattle.transfer_functions.specs.Flags.{by_operator, ruled_truths}
-use Rattle.transfer_functions.specs.Values.{on_state, with_part}
+use Rattle.transfer_functions.specs.Values.{on_state}
 use Rattle.transfer_functions.proofs.FlagsSound.{IsResult, is_counted, ruled_stand, zero_stands}
 use Rattle.transfer_functions.proofs.Knowing.{KnownWord}
 use Rattle.transfer_functions.proofs.SoundArithmetic.{same_width}

@@ -1,10 +1,9 @@
 -- Exchanges with a comparison or a sum: their expansion stands for what they do.
-use Rattle.std.proofs.Common.{◌≡◌, ℕ, ◌<◌, ◌^◌, Bool, true, false, ◌==◌, cond, List, refl, sym, ◌∙◌, ap, subst}
+use Rattle.std.proofs.Common.{◌≡◌, ℕ, ◌<◌, ◌^◌, Bool, true, false, cond, List, refl, sym, ◌∙◌, ap, subst}
 use Rattle.std.proofs.lemmas.Bool.{and_parts}
 use Rattle.address_regions.specs.Places.{Places}
 use Rattle.bit_words.specs.declared.width.Width.{Width}
 use Rattle.bit_words.specs.declared.op.Op.TheVariants.{Add, Sub, Eq}
-use Rattle.bit_words.specs.Width.{bits_of, cut}
 use Rattle.bit_words.specs.Operators.{apply_op}
 use Rattle.domain_laws.specs.Laws.{Values, IsLawful}
 use Rattle.memory_map.specs.declared.choice.Choice.{Choice}

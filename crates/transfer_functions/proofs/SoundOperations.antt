@@ -1,6 +1,6 @@
 -- The expansion of every instruction stands for what it does.
 use Rattle.std.proofs.Common.{◌≡◌, ℕ, ◌<◌, ◌^◌, true, List, [], refl, sym, subst, arith, inl, inr}
-use Rattle.std.specs.Prelude.{All, Ok}
+use Rattle.std.specs.Prelude.{Ok}
 use Rattle.std.proofs.lemmas.Bool.{and_parts}
 use Rattle.address_regions.specs.Places.{Places}
 use Rattle.bit_words.specs.declared.op.Op.{Op}

@@ -68,8 +68,8 @@ module _ {D : Type 0} (d : Values D) (image : Image) where
   double_shift_by op other rule w to a b v next p =
       if is_no_shift (d.number_of v) then unshifted to a next p
       else
-          let r = double_shifted d image.align op other w a b (d.number_of v) in
-          writing d image p to r (λ q. lands next (on_state (λ s. with_flags (double_truths d image.align rule w a v r s.flags) s) q))
+      let r = double_shifted d image.align op other w a b (d.number_of v) in
+      writing d image p to r (λ q. lands next (on_state (λ s. with_flags (double_truths d image.align rule w a v r s.flags) s) q))
 
   abbrev pub double_shift : Op → Op → FlagRule → Width → Operand → ℕ → Operand → ℕ → Path D → Expanded D
   double_shift op other rule w to r count next p =

@@ -161,7 +161,11 @@ impl Site<'_> {
                 let sum = eval(Op::Add, w, a, b, align);
                 match self.write(&mut p, place, sum)? {
                     Stored::Done => {
-                        let v = if is_register_numbered(r, place) { sum } else { a };
+                        let v = if is_register_numbered(r, place) {
+                            sum
+                        } else {
+                            a
+                        };
                         set_part(&mut p.state, w, r, v, align);
                         self.flagged(FlagRule::Sum, w, (a, b), sum, p)
                     }

@@ -1,4 +1,4 @@
-use Rattle.std.proofs.Common.{◌≡◌, subst}
+use Rattle.std.proofs.Common.{subst}
 use Rattle.abstract_state.specs.Expanding.{Path}
 use Rattle.partitioned_memory.specs.Well.{MayHold}
 use Rattle.domain_laws.specs.Made.{values_of}
