@@ -1,17 +1,17 @@
 -- The log of an exploration is closed, and its rows are well.
 use Rattle.std.proofs.Common.{◌≡◌, ℕ, zero, suc, ◌+◌, ◌<◌, ◌≤◌, Bool, true, false, not, List, [], ◌∷◌, ◌++◌, length, map, refl, sym, ◌∙◌, ap, subst, inl, inr, arith, cond, Option, Some, None, length-append, add-zero, get_or}
-use Rattle.std.specs.Prelude.{Contains, All, slice_get, nat_lt, filter, filter_map, flat_map, option_map}
+use Rattle.std.specs.Prelude.{Contains, All, slice_get, nat_lt, filter, filter_map, option_map}
 use Rattle.std.specs.List.{list_any, enumerate_from}
 use Rattle.std.proofs.lemmas.List.Elements.{Contains-append_right, Contains-append_left, Contains-push, All-map, All-push, All-nil, All-contains}
 use Rattle.std.proofs.lemmas.Option.{slice_get_within, slice_get-get_or}
 use Rattle.std.proofs.Math.Nat.{eq-or-lt_of_le}
 use Rattle.flow_log.specs.Analysis.{Analysis}
 use Rattle.flow_log.specs.Log.{Row, Log, pair_of, states_at, row_after, with_row, with_next_pair, with_next_pairs, with_notes, with_expansion, at_row, explored, first_log, log_of}
-use Rattle.flow_log.specs.Log.{Mark, mark_of, location_marks, expansion_mark, unexpanded_marks, marks_by, marks_of, IsOpen}
+use Rattle.flow_log.specs.Log.{Mark, mark_of, expansion_mark, unexpanded_marks, marks_by, marks_of, IsOpen}
 use Rattle.flow_log.specs.Run.{Machine}
 use Rattle.flow_log.specs.Sound.{Sound, IsRepresented, IsDone, IsClosed}
-use Rattle.flow_log.proofs.Members.{Contains-map, Contains-flat_map, Contains-filter, Contains-filter_map, Contains-cases, Contains-here, Contains-later, Contains-none, Contains-numbered, IsMappedAt, mapped_at, position_of, row_of_any, slice_get-append_back, Contains-slice_get, slice_get-last, lt_or_le}
-use Rattle.flow_log.proofs.Growing.{Grows, row_kept, in_rows_kept, edges_kept, causes_kept, writes_kept, with_next_pairs-grows, with_expansion-grows, explored-grows}
+use Rattle.flow_log.proofs.Members.{Contains-map, Contains-filter, Contains-filter_map, Contains-cases, Contains-here, Contains-later, Contains-none, Contains-numbered, IsMappedAt, mapped_at, position_of, row_of_any, slice_get-append_back, Contains-slice_get, slice_get-last, lt_or_le}
+use Rattle.flow_log.proofs.Growing.{Grows, row_kept, in_rows_kept, edges_kept, causes_kept, with_next_pairs-grows, with_expansion-grows, explored-grows}
 
 module _ {S E C W : Type 0} (a : Analysis S E C W) where
   IsRepresented-grows : (x y : Log S E C W) (location : ℕ) (state : S) → Grows x y → IsRepresented a (map pair_of x.rows) location state → IsRepresented a (map pair_of y.rows) location state
@@ -22,14 +22,12 @@ module _ {S E C W : Type 0} (a : Analysis S E C W) where
     edges : (pair : ℕ × S) → Contains (a.expand row.location row.state).next pair → Contains log.edges (a.edge row.location row.state pair.0)
     next : (pair : ℕ × S) → Contains (a.expand row.location row.state).next pair → IsRepresented a (map pair_of log.rows) pair.0 pair.1
     causes : (c : C) → Contains (a.expand row.location row.state).causes c → Contains log.causes (number, c)
-    writes : (w : W) → Contains (a.expand row.location row.state).writes w → Contains log.writes w
 
   IsTaken-grows : (x y : Log S E C W) (number : ℕ) (row : Row S) → Grows x y → IsTaken x number row → IsTaken y number row
   IsTaken-grows x y number row g h = record {
     edges = λ pair held. edges_kept x y _ g (h.edges pair held);
     next = λ pair held. IsRepresented-grows x y pair.0 pair.1 g (h.next pair held);
     causes = λ c held. causes_kept x y (number, c) g (h.causes c held);
-    writes = λ w held. writes_kept x y w g (h.writes w held);
   }
 
 module _ {S E C W : Type 0} (a : Analysis S E C W) (budget : ℕ) where
@@ -87,7 +85,6 @@ module _ {S E C W : Type 0} (a : Analysis S E C W) (budget : ℕ) where
         edges = λ pair held. pairs_edges number edge_to x.next noted pair held;
         next = λ pair held. pairs_represented number edge_to x.next noted pair held;
         causes = λ c held. causes_kept noted _ (number, c) g (Contains-append_right log.causes (map (λ d. (number, d)) x.causes) (number, c) (Contains-map (λ d. (number, d)) x.causes c held));
-        writes = λ w held. writes_kept noted _ w g (Contains-append_right log.writes x.writes w held);
       }
 
   -- the rows below a number are expanded into a log
@@ -222,40 +219,24 @@ module _ {S E C W : Type 0} (a : Analysis S E C W) (log : Log S E C W) (number :
       let same : 0 + number ≡ number = omega arith in
       subst P same (Contains-numbered 0 log.rows number row at)
 
-  by_location : (c : C) → Contains (a.location_causes log.writes row.location) c → IsOpen a log row.location
-  unfolding marks_by
-  by_location c holds =
-      let causes = a.location_causes log.writes in
-      record {
-        mark = mark_of (number, row) c;
-        in_marks = Contains-append_left (location_marks causes log.rows ++ filter_map (expansion_mark log.rows) log.causes) _ (mark_of (number, row) c)
-            (Contains-append_left (location_marks causes log.rows) _ (mark_of (number, row) c)
-            (Contains-flat_map (λ (r : ℕ × Row S). map (mark_of r) (causes r.1.location)) (enumerate_from 0 log.rows) (number, row) (mark_of (number, row) c) numbered
-            (Contains-map (mark_of (number, row)) (causes row.location) c holds)));
-        located = refl;
-      }
-
   by_expansion : (c : C) → Contains log.causes (number, c) → IsOpen a log row.location
   unfolding marks_by
   by_expansion c holds =
-      let causes = a.location_causes log.writes in
       let found : expansion_mark log.rows (number, c) ≡ Some (mark_of (number, row) c) = ap (option_map (λ (r : Row S). mark_of (number, r) c)) at in
       record {
         mark = mark_of (number, row) c;
-        in_marks = Contains-append_left (location_marks causes log.rows ++ filter_map (expansion_mark log.rows) log.causes) _ (mark_of (number, row) c)
-            (Contains-append_right (location_marks causes log.rows) (filter_map (expansion_mark log.rows) log.causes) (mark_of (number, row) c)
-            (Contains-filter_map (expansion_mark log.rows) log.causes (number, c) (mark_of (number, row) c) holds found));
+        in_marks = Contains-append_left (filter_map (expansion_mark log.rows) log.causes) _ (mark_of (number, row) c)
+            (Contains-filter_map (expansion_mark log.rows) log.causes (number, c) (mark_of (number, row) c) holds found);
         located = refl;
       }
 
   by_budget : row.expanded ≡ false → IsOpen a log row.location
   unfolding marks_by
   by_budget unexpanded =
-      let causes = a.location_causes log.writes in
       let left : ℕ × Row S → Bool = λ r. not r.1.expanded in
       record {
         mark = mark_of (number, row) a.unexpanded;
-        in_marks = Contains-append_right (location_marks causes log.rows ++ filter_map (expansion_mark log.rows) log.causes)
+        in_marks = Contains-append_right (filter_map (expansion_mark log.rows) log.causes)
             (unexpanded_marks a.unexpanded log.rows) (mark_of (number, row) a.unexpanded)
             (Contains-map (λ (r : ℕ × Row S). mark_of r a.unexpanded) (filter left (enumerate_from 0 log.rows)) (number, row)
             (Contains-filter left (enumerate_from 0 log.rows) (number, row) numbered (ap not unexpanded)));
@@ -266,18 +247,16 @@ module _ {S E C W : Type 0} (a : Analysis S E C W) (log : Log S E C W) (number :
   was_expanded true is shut = is
   was_expanded false is shut = absurd (shut (by_budget is))
 
-  row_done : IsTaken a log number row → (IsOpen a log row.location → ⊥) → IsDone a (map pair_of log.rows) log.edges log.writes row.location row.state
+  row_done : IsTaken a log number row → (IsOpen a log row.location → ⊥) → IsDone a (map pair_of log.rows) log.edges row.location row.state
   row_done taken shut = record {
-    no_location_cause = λ c holds. shut (by_location c holds);
     no_cause = λ c holds. shut (by_expansion c (taken.causes c holds));
     has_next = taken.next;
     has_edge = taken.edges;
-    has_write = taken.writes;
   }
 
 module _ {S E C W : Type 0} (a : Analysis S E C W) (budget : ℕ) where
   -- the finished log is closed
-  pub log_closed : IsClosed a (map pair_of (log_of a budget).rows) (log_of a budget).edges (log_of a budget).writes (IsOpen a (log_of a budget))
+  pub log_closed : IsClosed a (map pair_of (log_of a budget).rows) (log_of a budget).edges (IsOpen a (log_of a budget))
   log_closed =
       let log = log_of a budget in
       let first = row_after budget [] None a.entry a.start in
@@ -288,7 +267,7 @@ module _ {S E C W : Type 0} (a : Analysis S E C W) (budget : ℕ) where
         done = λ location state held shut.
             let numbered = position_of (map pair_of log.rows) (location, state) held in
             let found : IsMappedAt pair_of log.rows numbered.0 (location, state) = mapped_at pair_of log.rows numbered.0 (location, state) numbered.1 in
-            let P : ℕ × S → Type 0 = λ p. (IsOpen a log p.0 → ⊥) → IsDone a (map pair_of log.rows) log.edges log.writes p.0 p.1 in
+            let P : ℕ × S → Type 0 = λ p. (IsOpen a log p.0 → ⊥) → IsDone a (map pair_of log.rows) log.edges p.0 p.1 in
             let here : P (pair_of found.from) = λ closed.
             row_done a log numbered.0 found.from found.at
             (expanded_taken a budget numbered.0 found.from found.at (was_expanded a log numbered.0 found.from found.at found.from.expanded refl closed)) closed in
@@ -296,8 +275,8 @@ module _ {S E C W : Type 0} (a : Analysis S E C W) (budget : ℕ) where
       }
 
 -- each row of a log of a sound analysis is well
-module _ {S E C W M : Type 0} (a : Analysis S E C W) (machine : Machine M E) (IsWell : S → Type 0) (Describes : S → M → Type 0) (IsLoadedBut : List W → M → Type 0)
-    (sound : Sound a machine IsWell Describes IsLoadedBut) (budget : ℕ) where
+module _ {S E C W M : Type 0} (a : Analysis S E C W) (machine : Machine M E) (IsWell : S → Type 0) (Describes : S → M → Type 0)
+    (sound : Sound a machine IsWell Describes) (budget : ℕ) where
   abbrev AreWell : List (Row S) → Type 0
   AreWell rows = All (λ row. IsWell row.state) rows
 

@@ -65,9 +65,6 @@ edges_kept x y edge g held = kept x.edges y.edges g.more_edges edge g.edges held
 pub causes_kept : {S E C W : Type 0} (x y : Log S E C W) (noted : ℕ × C) → Grows x y → Contains x.causes noted → Contains y.causes noted
 causes_kept x y noted g held = kept x.causes y.causes g.more_causes noted g.causes held
 
-pub writes_kept : {S E C W : Type 0} (x y : Log S E C W) (w : W) → Grows x y → Contains x.writes w → Contains y.writes w
-writes_kept x y w g held = kept x.writes y.writes g.more_writes w g.writes held
-
 grown_rows : {S : Type 0} (covers : S → S → Bool) (budget parent location : ℕ) (state : S) (rows : List (Row S)) → (more : List (Row S)) × (with_row covers budget parent location state rows ≡ rows ++ more)
 unfolding with_row
 grown_rows {S = S} covers budget parent location state rows =

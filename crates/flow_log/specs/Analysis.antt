@@ -18,7 +18,5 @@ pub record Analysis (S E C W : Type 0) : Type 0 where
   pub covers : S → S → Bool
   -- a state made to stand for more, by the states of the earlier rows at its location
   pub widen : List S → S → S
-  -- the causes that hold of a location whatever rows are there, by all written ranges
-  pub location_causes : List W → ℕ → List C
   -- the cause of a row that was not expanded
   pub unexpanded : C

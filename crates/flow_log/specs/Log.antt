@@ -1,5 +1,5 @@
 -- The log of an exploration: a fold over a list of rows.
-use Rattle.std.specs.Prelude.{ℕ, ◌≡◌, zero, suc, ◌+◌, Bool, not, List, [], ◌∷◌, ◌++◌, length, map, Option, None, Some, nat_lt, slice_get, filter, flat_map, ◌==◌, Contains}
+use Rattle.std.specs.Prelude.{ℕ, ◌≡◌, zero, suc, ◌+◌, Bool, not, List, [], ◌∷◌, ◌++◌, length, map, Option, None, Some, nat_lt, slice_get, filter, ◌==◌, Contains}
 use Rattle.std.specs.Prelude.{if◌then◌else◌, filter_map, fold, option_map}
 use Rattle.std.specs.List.{list_any, enumerate_from}
 use Rattle.flow_log.specs.Analysis.{Analysis, Expansion}
@@ -92,10 +92,6 @@ pub record Mark (C : Type 0) : Type 0 where
 abbrev pub mark_of : {S C : Type 0} → ℕ × Row S → C → Mark C
 mark_of numbered cause = record { row = numbered.0; location = numbered.1.location; cause = cause }
 
--- what holds of the locations themselves
-abbrev pub location_marks : {S C : Type 0} → (ℕ → List C) → List (Row S) → List (Mark C)
-location_marks causes rows = flat_map (λ numbered. map (mark_of numbered) (causes numbered.1.location)) (enumerate_from 0 rows)
-
 -- what an expansion gave
 abbrev pub expansion_mark : {S C : Type 0} → List (Row S) → ℕ × C → Option (Mark C)
 expansion_mark rows noted = option_map (λ row. mark_of (noted.0, row) noted.1) (slice_get rows noted.0)
@@ -105,13 +101,12 @@ abbrev pub unexpanded_marks : {S C : Type 0} → C → List (Row S) → List (Ma
 unexpanded_marks cause rows = map (λ numbered. mark_of numbered cause) (filter (λ numbered. not numbered.1.expanded) (enumerate_from 0 rows))
 
 -- the marks of open locations
-unfoldable pub marks_by : {S E C W : Type 0} → (List W → ℕ → List C) → C → Log S E C W → List (Mark C)
-marks_by causes unexpanded log =
-    location_marks (causes log.writes) log.rows ++ filter_map (expansion_mark log.rows) log.causes ++ unexpanded_marks unexpanded log.rows
+unfoldable pub marks_by : {S E C W : Type 0} → C → Log S E C W → List (Mark C)
+marks_by unexpanded log = filter_map (expansion_mark log.rows) log.causes ++ unexpanded_marks unexpanded log.rows
 
 module _ {S E C W : Type 0} (a : Analysis S E C W) where
   abbrev pub marks_of : Log S E C W → List (Mark C)
-  marks_of log = marks_by a.location_causes a.unexpanded log
+  marks_of log = marks_by a.unexpanded log
 
   -- some row there is marked
   pub record IsOpen (log : Log S E C W) (location : ℕ) : Type 0 where

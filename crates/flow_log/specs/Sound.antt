@@ -11,24 +11,15 @@ pub record IsFound {S E C W M : Type 0} (a : Analysis S E C W) (machine : Machin
   pub edge : a.edge (machine.place m) s (machine.place next) ≡ machine.edge m next
 
 -- `IsWell s`: the state s is well formed. `Describes s m`: s stands for the machine state m.
--- `IsLoadedBut ws m`: outside the ranges ws the image's bytes in m are as they were loaded.
-pub record Sound {S E C W M : Type 0} (a : Analysis S E C W) (machine : Machine M E) (IsWell : S → Type 0) (Describes : S → M → Type 0) (IsLoadedBut : List W → M → Type 0) : Type 0 where
+pub record Sound {S E C W M : Type 0} (a : Analysis S E C W) (machine : Machine M E) (IsWell : S → Type 0) (Describes : S → M → Type 0) : Type 0 where
   pub start_well : IsWell a.start
   pub next_well : (location : ℕ) (s : S) (pair : ℕ × S) → IsWell s → Contains (a.expand location s).next pair → IsWell pair.1
   pub widen_well : (seen : List S) (s : S) → IsWell s → IsWell (a.widen seen s)
   pub covers : (t s : S) (m : M) → IsWell t → IsWell s → a.covers t s ≡ true → Describes s m → Describes t m
   pub widen : (seen : List S) (s : S) (m : M) → IsWell s → Describes s m → Describes (a.widen seen s) m
-  -- one step from a described state at whose place no cause holds
-  pub step : (ws : List W) (s : S) (m next : M) → IsWell s → Describes s m → IsLoadedBut ws m
-      → ((c : C) → Contains (a.location_causes ws (machine.place m)) c → ⊥)
-      → ((c : C) → Contains (a.expand (machine.place m) s).causes c → ⊥)
-      → machine.Steps m next → IsFound a machine Describes s m next
-  -- and what it writes of the image lies in the ranges that the expansion gives
-  pub writes : (ws : List W) (s : S) (m next : M) → IsWell s → Describes s m → IsLoadedBut ws m
-      → ((c : C) → Contains (a.location_causes ws (machine.place m)) c → ⊥)
-      → ((c : C) → Contains (a.expand (machine.place m) s).causes c → ⊥)
-      → ((w : W) → Contains (a.expand (machine.place m) s).writes w → Contains ws w)
-      → machine.Steps m next → IsLoadedBut ws next
+  -- one step from a described state for which its expansion gives no cause
+  pub step : (s : S) (m next : M) → IsWell s → Describes s m → ((c : C) → Contains (a.expand (machine.place m) s).causes c → ⊥) → machine.Steps m next
+      → IsFound a machine Describes s m next
 
 -- rows are pairs of a location and a state, of a log or of any other table
 module _ {S E C W : Type 0} (a : Analysis S E C W) where
@@ -43,23 +34,20 @@ module _ {S E C W : Type 0} (a : Analysis S E C W) where
     pub stands : StandsFor row state ⊎ ((seen : List S) × StandsFor row (a.widen seen state))
 
   -- no cause holds of a row, and all to which it leads is there
-  pub record IsDone (rows : List (ℕ × S)) (edges : List E) (writes : List W) (location : ℕ) (state : S) : Type 0 where
-    pub no_location_cause : (c : C) → Contains (a.location_causes writes location) c → ⊥
+  pub record IsDone (rows : List (ℕ × S)) (edges : List E) (location : ℕ) (state : S) : Type 0 where
     pub no_cause : (c : C) → Contains (a.expand location state).causes c → ⊥
     pub has_next : (pair : ℕ × S) → Contains (a.expand location state).next pair → IsRepresented rows pair.0 pair.1
     pub has_edge : (pair : ℕ × S) → Contains (a.expand location state).next pair → Contains edges (a.edge location state pair.0)
-    pub has_write : (w : W) → Contains (a.expand location state).writes w → Contains writes w
 
   -- a row stands for the start, and each row at a location that is not open is done
-  pub record IsClosed (rows : List (ℕ × S)) (edges : List E) (writes : List W) (Open : ℕ → Type 0) : Type 0 where
+  pub record IsClosed (rows : List (ℕ × S)) (edges : List E) (Open : ℕ → Type 0) : Type 0 where
     pub first : S
     pub first_in_rows : Contains rows (a.entry, first)
     pub first_stands : StandsFor first a.start
-    pub done : (location : ℕ) (state : S) → Contains rows (location, state) → (Open location → ⊥) → IsDone rows edges writes location state
+    pub done : (location : ℕ) (state : S) → Contains rows (location, state) → (Open location → ⊥) → IsDone rows edges location state
 
--- a machine state is known to rows: one at its place describes it, and the written ranges say what differs from the image
-pub record IsKnown {S E W M : Type 0} (machine : Machine M E) (Describes : S → M → Type 0) (IsLoadedBut : List W → M → Type 0) (rows : List (ℕ × S)) (writes : List W) (m : M) : Type 0 where
+-- a machine state is known to rows: one at its place describes it
+pub record IsKnown {S E M : Type 0} (machine : Machine M E) (Describes : S → M → Type 0) (rows : List (ℕ × S)) (m : M) : Type 0 where
   pub state : S
   pub in_rows : Contains rows (machine.place m, state)
   pub describes : Describes state m
-  pub loaded : IsLoadedBut writes m

@@ -1,5 +1,5 @@
 -- The code's steps on a log are those of the definition.
-use Rattle.std.proofs.Common.{◌≡◌, ℕ, zero, suc, ◌+◌, ◌<◌, List, [], ◌∷◌, ◌++◌, length, take, get_or, Option, Some, None, inl, inr, refl, sym, ◌∙◌, ap, subst}
+use Rattle.std.proofs.Common.{◌≡◌, ℕ, zero, suc, ◌+◌, ◌<◌, List, [], ◌∷◌, ◌++◌, length, take, get_or, Option, Some, None, inl, inr, refl, sym, ◌∙◌, ap}
 use Rattle.std.specs.Prelude.{fold, slice_get}
 use Rattle.std.proofs.lemmas.List.{take_more}
 use Rattle.stub_file.specs.Stubs.{StatedStubs}
@@ -11,7 +11,6 @@ use Rattle.flow_log.specs.Log.{Row, with_next_pairs, with_notes, with_expansion,
 use Rattle.abstract_state.specs.State.{Known, covers_state}
 use Rattle.abstract_state.specs.Expanding.{Expanded}
 use Rattle.flow_worklist.specs.declared.post.Post.{Post}
-use Rattle.flow_worklist.specs.Post.{post}
 use Rattle.flow_worklist.specs.PostOf.{IsLabelled, IsPostOf, IsPostOfRow}
 use Rattle.flow_worklist.specs.Analysis.{ImageLog, analysis_of, image_log, edge_by, edge_from, widened_by}
 
@@ -29,12 +28,12 @@ module _ {D : Type 0} (d : Values D) (image : Image) (stubs : StatedStubs) (k bu
   with_next number edge_to pairs log = with_next_pairs (covers_state d) (widened_by d k) budget number edge_to pairs log
 
   -- the pairs of an expansion with the label of its steps
-  labelled_pairs : (number from : ℕ) (x : Expanded D) (label : Label) (log : ImageLog D) → IsLabelled image from x label
-      → with_next number (edge_by from label) x.next log ≡ with_next number (edge_from image from) x.next log
+  labelled_pairs : (number from : ℕ) (s : Known D) (x : Expanded D) (label : Label) (log : ImageLog D) → IsLabelled d image stubs k from s x label
+      → with_next number (edge_by from label) x.next log ≡ with_next number (edge_from d image from s) x.next log
   unfolding edge_from
-  labelled_pairs number from x label log (inl none) =
-      ap (λ pairs. with_next number (edge_by from label) pairs log) none ∙ sym (ap (λ pairs. with_next number (edge_from image from) pairs log) none)
-  labelled_pairs number from x label log (inr labelled) = ap (λ l. with_next number (edge_by from l) x.next log) (sym labelled)
+  labelled_pairs number from s x label log (inl none) =
+      ap (λ pairs. with_next number (edge_by from label) pairs log) none ∙ sym (ap (λ pairs. with_next number (edge_from d image from s) pairs log) none)
+  labelled_pairs number from s x label log (inr labelled) = ap (λ l. with_next number (edge_by from l) x.next log) (sym labelled)
 
   -- an expansion taken in
   pub expanded_is : (number : ℕ) (row : Row (Known D)) (answer : Post D) (log : ImageLog D) → IsPostOf d image stubs k row.location row.state answer
@@ -42,8 +41,8 @@ module _ {D : Type 0} (d : Values D) (image : Image) (stubs : StatedStubs) (k bu
   unfolding with_expansion
   expanded_is number row answer log p =
       ap (λ at. with_next number (edge_by at answer.label) answer.expansion.next (with_notes number answer.expansion log)) p.located
-      ∙ labelled_pairs number row.location answer.expansion answer.label (with_notes number answer.expansion log) p.label
-      ∙ ap (λ (x : Expanded D). with_next number (edge_from image row.location) x.next (with_notes number x log)) p.expansion
+      ∙ labelled_pairs number row.location row.state answer.expansion answer.label (with_notes number answer.expansion log) p.label
+      ∙ ap (λ (x : Expanded D). with_next number (edge_from d image row.location row.state) x.next (with_notes number x log)) p.expansion
 
   -- one turn of the exploration
   pub explored_one : (fuel number : ℕ) (row : Row (Known D)) (log after : ImageLog D) → slice_get log.rows number ≡ Some row

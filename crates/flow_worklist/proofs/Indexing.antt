@@ -1,6 +1,6 @@
 -- What is kept of each location stays true as rows come.
 use Rattle.std.proofs.Common.{◌≡◌, ℕ, Bool, true, false, List, [], ◌∷◌, ◌++◌, length, map, cond, Option, Some, None, refl, sym, ◌∙◌, ap, subst, ◌==◌, ◌||◌}
-use Rattle.std.specs.Prelude.{filter, fold, nat_eq, slice_get}
+use Rattle.std.specs.Prelude.{fold, nat_eq, slice_get}
 use Rattle.std.specs.List.{list_any}
 use Rattle.std.specs.Option.{option_map_or}
 use Rattle.std.proofs.lemmas.Bool.{eqb-true}

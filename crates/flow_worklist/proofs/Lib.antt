@@ -2,8 +2,7 @@ pub mod Fetching
 pub mod Posting
 pub mod Expanding
 pub mod Marking
-pub mod Starting
 pub mod Spelling
 pub mod StepSound
 pub mod Indexing
-pub mod FixedCode
+pub mod Following

@@ -1,12 +1,11 @@
 -- Lists of marks, as they are pushed.
-use Rattle.std.proofs.Common.{◌≡◌, ℕ, zero, suc, ◌+◌, ◌<◌, Bool, true, false, not, cond, List, [], ◌∷◌, ◌++◌, length, take, get_or, map, Option, Some, None, refl, sym, ◌∙◌, ap, arith}
-use Rattle.std.specs.Prelude.{filter, flat_map, filter_map, option_map, option_to_list, unwrap_or, slice_get}
+use Rattle.std.proofs.Common.{◌≡◌, ℕ, suc, ◌+◌, ◌<◌, Bool, true, false, not, cond, List, [], ◌∷◌, ◌++◌, length, take, get_or, map, Option, Some, None, refl, sym, ◌∙◌, ap, arith}
+use Rattle.std.specs.Prelude.{filter, filter_map, option_map, option_to_list, unwrap_or, slice_get}
 use Rattle.std.specs.List.{cons_option, enumerate_from}
-use Rattle.std.proofs.lemmas.List.{append-nil, map-append, take_more}
-use Rattle.std.proofs.lemmas.Grind.{flat_map-append}
+use Rattle.std.proofs.lemmas.List.{length-take, map-append, take_more}
 use Rattle.std.proofs.lemmas.List.Elements.{filter-append, filter_map-append}
 use Rattle.std.proofs.lemmas.Option.{slice_get_read}
-use Rattle.flow_log.specs.Log.{Row, Mark, mark_of, location_marks, expansion_mark, unexpanded_marks}
+use Rattle.flow_log.specs.Log.{Row, Mark, mark_of, expansion_mark, unexpanded_marks}
 use Rattle.flow_log.specs.declared.cause.Cause.{Cause}
 use Rattle.flow_log.specs.declared.cause.Cause.TheVariants as causes
 use Rattle.flow_log.specs.declared.edge.Edge.{Edge}
@@ -17,16 +16,12 @@ use Rattle.flow_worklist.specs.Analysis.{entry_of, open_at, open_mark}
 use Rattle.flow_worklist.specs.Exploring.{cause_unexpanded}
 
 abbrev automaton : ℕ → List Location → List Edge → List OpenMark → Automaton
-automaton entry locations edges marks = record { entry = entry; locations = locations; edges = edges; marks = marks }
+automaton entry locations edges marks = record { version = 2; entry = entry; locations = locations; edges = edges; marks = marks }
 
--- three parts mapped, one after another
-pub map_three : {X Y : Type 0} (f : X → Y) (xs ys zs : List X) → (map f xs ++ map f ys) ++ map f zs ≡ map f ((xs ++ ys) ++ zs)
-map_three f xs ys zs = sym (map-append f (xs ++ ys) zs ∙ ap (λ front. front ++ map f zs) (map-append f xs ys))
-
-pub pushed_three : {X Y : Type 0} (f : X → Y) (xs ys zs : List X) (empty first second third : List Y) → empty ≡ [] → first ≡ empty ++ map f xs → second ≡ first ++ map f ys
-    → third ≡ second ++ map f zs → third ≡ map f ((xs ++ ys) ++ zs)
-pushed_three f xs ys zs empty first second third none a b c =
-    c ∙ ap (λ l. l ++ map f zs) (b ∙ ap (λ l. l ++ map f ys) (a ∙ ap (λ l. l ++ map f xs) none)) ∙ map_three f xs ys zs
+-- two parts mapped, one after another
+pub pushed_two : {X Y : Type 0} (f : X → Y) (xs ys : List X) (empty first second : List Y) → empty ≡ [] → first ≡ empty ++ map f xs → second ≡ first ++ map f ys
+    → second ≡ map f (xs ++ ys)
+pushed_two f xs ys empty first second none a b = b ∙ ap (λ l. l ++ map f ys) (a ∙ ap (λ l. l ++ map f xs) none) ∙ sym (map-append f xs ys)
 
 pub same_automaton : (e e' : ℕ) (l l' : List Location) (d d' : List Edge) (m m' : List OpenMark) → e ≡ e' → l ≡ l' → d ≡ d' → m ≡ m'
     → automaton e l d m ≡ automaton e' l' d' m'
@@ -51,13 +46,13 @@ filtered_more h f xs i d within =
 
 -- the mark of a cause at the row that it names
 pub mark_at : {S : Type 0} (rows : List (Row S)) (number at : ℕ) (cause : Cause) → Some at ≡ option_map (λ (row : Row S). row.location) (slice_get rows number)
-    → option_to_list (option_map open_mark (expansion_mark rows (number, cause))) ≡ open_at at cause ∷ []
+    → option_to_list (option_map open_mark (expansion_mark rows (number, cause))) ≡ open_at at cause number ∷ []
 mark_at {S} rows number at cause e = by_row (slice_get rows number) e
   where
     by_row : (o : Option (Row S)) → Some at ≡ option_map (λ (row : Row S). row.location) o
-        → option_to_list (option_map open_mark (option_map (λ (row : Row S). mark_of (number, row) cause) o)) ≡ open_at at cause ∷ []
+        → option_to_list (option_map open_mark (option_map (λ (row : Row S). mark_of (number, row) cause) o)) ≡ open_at at cause number ∷ []
     by_row None e' = cc
-    by_row (Some row) e' = (let same : at ≡ row.location = cc in ap (λ n. open_at n cause ∷ []) (sym same))
+    by_row (Some row) e' = (let same : at ≡ row.location = cc in ap (λ n. open_at n cause number ∷ []) (sym same))
 
 pub no_mark_at : {S : Type 0} (rows : List (Row S)) (number : ℕ) (cause : Cause) → None ≡ option_map (λ (row : Row S). row.location) (slice_get rows number)
     → option_to_list (option_map open_mark (expansion_mark rows (number, cause))) ≡ []
@@ -79,41 +74,19 @@ numbered_more n (y ∷ xs) x =
     let e : (n + 1) + length xs ≡ n + suc (length xs) = omega arith in
     ap (λ l. (n, y) ∷ l) (numbered_more (n + 1) xs x ∙ ap (λ k. enumerate_from (n + 1) xs ++ (k, x) ∷ []) e)
 
-marked : {S : Type 0} (numbered : ℕ × Row S) (cs : List Cause) → map open_mark (map (mark_of numbered) cs) ≡ map (open_at numbered.1.location) cs
-marked numbered [] = refl
-marked numbered (c ∷ cs) = ap (λ l. open_at numbered.1.location c ∷ l) (marked numbered cs)
-
--- the marks of the location of one row more
-location_one : {S : Type 0} (f : ℕ → List Cause) (rows : List (Row S)) (row : Row S)
-    → map open_mark (location_marks f (rows ++ row ∷ [])) ≡ map open_mark (location_marks f rows) ++ map (open_at row.location) (f row.location)
-location_one {S} f rows row =
-    let g : ℕ × Row S → List (Mark Cause) = λ numbered. map (mark_of numbered) (f numbered.1.location) in
-    let last : ℕ × Row S = (0 + length rows, row) in
-    ap (λ l. map open_mark (flat_map g l)) (numbered_more 0 rows row)
-    ∙ ap (map open_mark) (flat_map-append g (enumerate_from 0 rows) (last ∷ []) ∙ ap (λ l. flat_map g (enumerate_from 0 rows) ++ l) (append-nil (g last)))
-    ∙ map-append open_mark (location_marks f rows) (g last)
-    ∙ ap (λ l. map open_mark (location_marks f rows) ++ l) (marked last (f row.location))
-
-pub location_more : {S : Type 0} (f : ℕ → List Cause) (rows : List (Row S)) (i : ℕ) (row : Row S) → i < length rows → row ≡ get_or rows i row
-    → map open_mark (location_marks f (take (i + 1) rows)) ≡ map open_mark (location_marks f (take i rows)) ++ map (open_at row.location) (f row.location)
-location_more f rows i row within is =
-    ap (λ l. map open_mark (location_marks f l)) (take_more rows i row within)
-    ∙ ap (λ r. map open_mark (location_marks f (take i rows ++ r ∷ []))) (sym is)
-    ∙ location_one f (take i rows) row
-
 -- the mark of one row more that is not expanded
 unexpanded_last : {S : Type 0} (numbered : ℕ × Row S) (b : Bool) → numbered.1.expanded ≡ b
     → map open_mark (map (λ (r : ℕ × Row S). mark_of r causes.Budget) (cond (not numbered.1.expanded) (numbered ∷ []) []))
-    ≡ map (open_at numbered.1.location) (option_to_list (cause_unexpanded numbered.1))
+    ≡ map (λ cause. open_at numbered.1.location cause numbered.0) (option_to_list (cause_unexpanded numbered.1))
 unexpanded_last {S} numbered true is =
     ap (λ b. map open_mark (map (λ (r : ℕ × Row S). mark_of r causes.Budget) (cond (not b) (numbered ∷ []) []))) is
-    ∙ sym (ap (λ b. map (open_at numbered.1.location) (option_to_list (cond b None (Some causes.Budget)))) is)
+    ∙ sym (ap (λ b. map (λ cause. open_at numbered.1.location cause numbered.0) (option_to_list (cond b None (Some causes.Budget)))) is)
 unexpanded_last {S} numbered false is =
     ap (λ b. map open_mark (map (λ (r : ℕ × Row S). mark_of r causes.Budget) (cond (not b) (numbered ∷ []) []))) is
-    ∙ sym (ap (λ b. map (open_at numbered.1.location) (option_to_list (cond b None (Some causes.Budget)))) is)
+    ∙ sym (ap (λ b. map (λ cause. open_at numbered.1.location cause numbered.0) (option_to_list (cond b None (Some causes.Budget)))) is)
 
-unexpanded_one : {S : Type 0} (rows : List (Row S)) (row : Row S)
-    → map open_mark (unexpanded_marks causes.Budget (rows ++ row ∷ [])) ≡ map open_mark (unexpanded_marks causes.Budget rows) ++ map (open_at row.location) (option_to_list (cause_unexpanded row))
+unexpanded_one : {S : Type 0} (rows : List (Row S)) (row : Row S) → map open_mark (unexpanded_marks causes.Budget (rows ++ row ∷ []))
+    ≡ map open_mark (unexpanded_marks causes.Budget rows) ++ map (λ cause. open_at row.location cause (0 + length rows)) (option_to_list (cause_unexpanded row))
 unexpanded_one {S} rows row =
     let p : ℕ × Row S → Bool = λ numbered. not numbered.1.expanded in
     let f : ℕ × Row S → Mark Cause = λ numbered. mark_of numbered causes.Budget in
@@ -125,8 +98,11 @@ unexpanded_one {S} rows row =
     ∙ ap (λ l. map open_mark (unexpanded_marks causes.Budget rows) ++ l) (unexpanded_last last row.expanded refl)
 
 pub unexpanded_more : {S : Type 0} (rows : List (Row S)) (i : ℕ) (row : Row S) → i < length rows → row ≡ get_or rows i row
-    → map open_mark (unexpanded_marks causes.Budget (take (i + 1) rows)) ≡ map open_mark (unexpanded_marks causes.Budget (take i rows)) ++ map (open_at row.location) (option_to_list (cause_unexpanded row))
+    → map open_mark (unexpanded_marks causes.Budget (take (i + 1) rows))
+    ≡ map open_mark (unexpanded_marks causes.Budget (take i rows)) ++ map (λ cause. open_at row.location cause i) (option_to_list (cause_unexpanded row))
 unexpanded_more rows i row within is =
+    let number : 0 + length (take i rows) ≡ i = omega (arith, length-take i rows) in
     ap (λ l. map open_mark (unexpanded_marks causes.Budget l)) (take_more rows i row within)
     ∙ ap (λ r. map open_mark (unexpanded_marks causes.Budget (take i rows ++ r ∷ []))) (sym is)
     ∙ unexpanded_one (take i rows) row
+    ∙ ap (λ n. map open_mark (unexpanded_marks causes.Budget (take i rows)) ++ map (λ cause. open_at row.location cause n) (option_to_list (cause_unexpanded row))) number

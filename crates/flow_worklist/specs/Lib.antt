@@ -2,4 +2,4 @@ pub mod Post
 pub mod PostOf
 pub mod Analysis
 pub mod Exploring
-pub mod FixedCode
+pub mod Laws

@@ -1,38 +1,36 @@
-ghost use Rattle.std.specs.Prelude.{◌≡◌, ◌<◌, ◌++◌, IfOk, OnOk, length, map, filter_map, option_map, option_to_list};
+ghost use Rattle.std.specs.Prelude.{◌≡◌, ◌<◌, ◌^◌, ◌++◌, IfOk, OnOk, length, map, filter_map, option_map, option_to_list};
 ghost use Rattle.std.specs.Ordering.{nat_cmp};
-ghost use Rattle.flow_log.specs.Log.{expansion_mark, location_marks, marks_by, unexpanded_marks};
+ghost use Rattle.flow_log.specs.Log.{expansion_mark, marks_by, unexpanded_marks};
 ghost use Rattle.flow_log.specs.Ordered.{ordered_set};
-ghost use Rattle.flow_worklist.specs.Post.{location_causes};
 ghost use Rattle.flow_worklist.specs.Analysis.{automaton_of, location_of, open_at, open_mark};
 ghost use Rattle.flow_worklist.specs.Exploring.{cause_unexpanded};
 
-use crate::location::location_cause;
 use crate::log::location_at;
 use crate::{Log, Row};
-use automaton_text::{Automaton, Location, OpenMark, sorted_marks};
+use automaton_text::{Automaton, Location, OpenMark, first_marks};
 use bit_words::NoMemory;
 use domain_laws::Domain;
 use flow_log::{Cause, Edge, sorted_edges, sorted_set};
 use image_loader::Image;
 use memory_map::{Items, Name};
 use std::alloc::Global;
-use stub_file::Stubs;
 
-/// The automaton of a log that was made with this image and these stubs. Refuses want of memory alone.
+/// The automaton of a log that was made with this image. Refuses want of memory alone.
 pub fn automaton_of<D: Domain>(
     alloc: Global,
     image: &Image,
-    stubs: &Stubs,
     log: &Log<D>,
 ) -> Result<Automaton, NoMemory>
-    requires { 0 < length log.now.rows }
-    ensures { IfOk result (λ a. a ≡ automaton_of image.now stubs.now log.now) }
+    requires some { 0 < length log.now.rows }
+    requires few { length log.now.rows < 2 ^ 32 }
+    ensures { IfOk result (λ a. a ≡ automaton_of image.now log.now) }
 {
     let entry = log.rows()[0].location();
     let locations = locations(alloc, image, log.rows())?;
     let edges = sorted_edges(copies(alloc, log.edges())?);
-    let marks = sorted_marks(marks(alloc, image, stubs, log)?);
+    let marks = first_marks(marks(alloc, log)?);
     Ok(Automaton {
+        version: 2,
         entry,
         locations: Items::from_vec(locations),
         edges: Items::from_vec(edges),
@@ -95,45 +93,14 @@ fn copies(alloc: Global, edges: &[Edge]) -> Result<Vec<Edge>, NoMemory>
 
 // All marks, in the order of the definition.
 #[tactic(auto, unfolding(flow_log::specs::Log::marks_by))]
-fn marks<D: Domain>(
-    alloc: Global,
-    image: &Image,
-    stubs: &Stubs,
-    log: &Log<D>,
-) -> Result<Vec<OpenMark>, NoMemory>
-    ensures { IfOk result (λ m. m.items ≡ map open_mark (marks_by (location_causes image.now stubs.now) Cause.Budget log.now)) }
+fn marks<D: Domain>(alloc: Global, log: &Log<D>) -> Result<Vec<OpenMark>, NoMemory>
+    requires { length log.now.rows < 2 ^ 32 }
+    ensures { IfOk result (λ m. m.items ≡ map open_mark (marks_by Cause.Budget log.now)) }
 {
     let mut found = Vec::new(alloc);
-    push_location_marks(&mut found, image, stubs, log.writes(), log.rows())?;
     push_expansion_marks(&mut found, log.rows(), log.causes())?;
     push_unexpanded_marks(&mut found, log.rows())?;
     Ok(found)
-}
-
-// A mark at an address, where there is a cause.
-fn push_mark(out: &mut Vec<OpenMark>, at: u32, cause: Option<Cause>) -> Result<(), NoMemory>
-    ensures { OnOk result (out.new.items ≡ out.old.items ++ map (open_at at) (option_to_list cause)) }
-{
-    if let Some(cause) = cause {
-        out.push(OpenMark { at, cause })?;
-    }
-    Ok(())
-}
-
-fn push_location_marks<D: Domain>(
-    out: &mut Vec<OpenMark>,
-    image: &Image,
-    stubs: &Stubs,
-    writes: &[(u32, u32)],
-    rows: &[Row<D>],
-) -> Result<(), NoMemory>
-    ensures { OnOk result (out.new.items ≡ out.old.items ++ map open_mark (location_marks (location_causes image.now stubs.now writes.now) rows.now)) }
-{
-    for row in rows {
-        let at = row.location();
-        push_mark(out, at, location_cause(image, stubs, writes, at))?;
-    }
-    Ok(())
 }
 
 fn push_expansion_mark<D: Domain>(
@@ -147,7 +114,7 @@ fn push_expansion_mark<D: Domain>(
     match location_at(rows, number) {
         None => Ok(()),
         Some(at) => {
-            out.push(OpenMark { at, cause })?;
+            out.push(open_at(at, cause, number))?;
             Ok(())
         }
     }
@@ -166,25 +133,40 @@ fn push_expansion_marks<D: Domain>(
     Ok(())
 }
 
-// The cause of a row that is not expanded.
-fn cause_unexpanded<D: Domain>(row: &Row<D>) -> Option<Cause>
-    ensures { result ≡ cause_unexpanded row.now }
+// The mark of the row of a number.
+fn open_at(at: u32, cause: Cause, number: u32) -> OpenMark
+    ensures { result ≡ open_at at cause number }
 {
-    if row.is_expanded() {
-        None
-    } else {
-        Some(Cause::Budget)
+    OpenMark {
+        at,
+        cause,
+        row: Some(number),
     }
+}
+
+// The mark of a row that is not expanded.
+fn push_unexpanded_mark<D: Domain>(
+    out: &mut Vec<OpenMark>,
+    row: &Row<D>,
+    number: u32,
+) -> Result<(), NoMemory>
+    ensures { OnOk result (out.new.items ≡ out.old.items ++ map (λ cause. open_at row.now.location cause number) (option_to_list (cause_unexpanded row.now))) }
+{
+    if !row.is_expanded() {
+        out.push(open_at(row.location(), Cause::Budget, number))?;
+    }
+    Ok(())
 }
 
 fn push_unexpanded_marks<D: Domain>(
     out: &mut Vec<OpenMark>,
     rows: &[Row<D>],
 ) -> Result<(), NoMemory>
+    requires { length rows.now < 2 ^ 32 }
     ensures { OnOk result (out.new.items ≡ out.old.items ++ map open_mark (unexpanded_marks Cause.Budget rows.now)) }
 {
-    for row in rows {
-        push_mark(out, row.location(), cause_unexpanded(row))?;
+    for (number, row) in rows.iter().enumerate() {
+        push_unexpanded_mark(out, row, number as u32)?;
     }
     Ok(())
 }

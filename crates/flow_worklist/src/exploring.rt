@@ -1,4 +1,4 @@
-ghost use Rattle.std.specs.Prelude.{ℕ, ◌≡◌, [], ◌∷◌, ◌++◌, Some, IfOk, OnOk, false, map, nat_eq, slice_get};
+ghost use Rattle.std.specs.Prelude.{ℕ, ◌≡◌, ◌<◌, ◌^◌, [], ◌∷◌, ◌++◌, Some, IfOk, OnOk, false, length, map, nat_eq, slice_get};
 ghost use Rattle.std.specs.HashMap.{get};
 ghost use Rattle.domain_laws.specs.Made.{values_of};
 ghost use Rattle.flow_log.specs.Log.{first_log, row_after, with_notes, with_next_pair, with_next_pairs, with_row};
@@ -6,9 +6,10 @@ ghost use Rattle.stub_file.specs.Stubs.{StatedStubs};
 ghost use Rattle.abstract_state.specs.State.{covers_state};
 ghost use Rattle.flow_worklist.specs.Analysis.{analysis_of, edge_by, image_log, widened_by};
 ghost use Rattle.flow_worklist.specs.Exploring.{IsIndexed, IsIndexedBut, IsOf, log_in};
-ghost use Rattle.flow_worklist.specs.PostOf.{IsPostOfRow};
+ghost use Rattle.flow_worklist.specs.PostOf.{IsPostOf, IsPostOfRow};
 
 use crate::post::{Post, expanded};
+use crate::reading::Reading;
 use crate::visits::Visits;
 use crate::{Log, Row};
 use abstract_state::{Expansion, State};
@@ -47,7 +48,7 @@ impl<D: Domain> Exploration<D> {
         ensures indexed { IfOk result (IsIndexed (values_of D.Domain.own D.eq)) }
     {
         let state = State::start(alloc, image)?;
-        let mut first = Visits::new(alloc);
+        let mut first = Visits::new(alloc, image, image.entry());
         first.add(0, &state)?;
         let mut visits = HashMap::new(alloc);
         visits.insert(image.entry(), first)?;
@@ -74,13 +75,34 @@ impl<D: Domain> Exploration<D> {
         ensures { IfOk result (IsPostOfRow (values_of D.Domain.own D.eq) image.now stubs.now k (slice_get self.now.rows.items number)) }
     {
         match self.rows.get(number as usize) {
-            Some(row) => Ok(Some(expanded(alloc, image, stubs, k, row.location(), row.state())?)),
+            Some(row) => Ok(Some(self.expanded_row(alloc, image, stubs, k, row)?)),
             None => Ok(None),
         }
     }
 
+    // The expansion of a row; what its location's bytes begin with is not read again.
+    fn expanded_row(
+        &self,
+        alloc: Global,
+        image: &Image,
+        stubs: &Stubs,
+        k: u32,
+        row: &Row<D>,
+    ) -> Result<Post<D>, NoMemory>
+        ensures { IfOk result (IsPostOf (values_of D.Domain.own D.eq) image.now stubs.now k row.now.location row.now.state) }
+    {
+        let at = row.location();
+        match self.visits.get(&at) {
+            Some(visits) => expanded(alloc, image, stubs, k, at, row.state(), &visits.reading),
+            None => {
+                let reading = Reading::of(image.fetch(at));
+                expanded(alloc, image, stubs, k, at, row.state(), &reading)
+            }
+        }
+    }
+
     // What is kept of a location, taken out.
-    fn take(&mut self, alloc: Global, at: u32) -> Visits<D>
+    fn take(&mut self, alloc: Global, image: &Image, at: u32) -> Visits<D>
         requires { IsIndexed (values_of D.Domain.own D.eq) self.old }
         ensures taken { IsOf (values_of D.Domain.own D.eq) result at self.old.rows.items }
         ensures others { (q : ℕ) → nat_eq at q ≡ false → get nat_eq self.new.visits q ≡ get nat_eq self.old.visits q }
@@ -91,7 +113,7 @@ impl<D: Domain> Exploration<D> {
     {
         match self.visits.remove(&at) {
             Some(visits) => visits,
-            None => Visits::new(alloc),
+            None => Visits::new(alloc, image, at),
         }
     }
 
@@ -161,6 +183,7 @@ impl<D: Domain> Exploration<D> {
     fn add(
         &mut self,
         alloc: Global,
+        image: &Image,
         number: u32,
         edge: Edge,
         state: State<D>,
@@ -170,7 +193,7 @@ impl<D: Domain> Exploration<D> {
         ensures log { OnOk result (log_in self.new ≡ with_next_pair (covers_state (values_of D.Domain.own D.eq)) (widened_by (values_of D.Domain.own D.eq) limits.k) limits.budget number edge (edge.to, state) (log_in self.old)) }
         ensures indexed { OnOk result (IsIndexed (values_of D.Domain.own D.eq) self.new) }
     {
-        let visits = self.take(alloc, edge.to);
+        let visits = self.take(alloc, image, edge.to);
         let widened = visits.widened(limits.k, state)?;
         self.add_row(number, edge.to, widened, visits, limits.budget)?;
         self.edges.push(edge)?;
@@ -192,6 +215,7 @@ impl<D: Domain> Exploration<D> {
     fn follow(
         &mut self,
         alloc: Global,
+        image: &Image,
         number: u32,
         post: Post<D>,
         limits: Limits,
@@ -209,7 +233,7 @@ impl<D: Domain> Exploration<D> {
                 to,
                 label: label.copy(alloc)?,
             };
-            self.add(alloc, number, edge, state, limits)?;
+            self.add(alloc, image, number, edge, state, limits)?;
         }
         Ok(())
     }
@@ -218,6 +242,7 @@ impl<D: Domain> Exploration<D> {
     fn take_in(
         &mut self,
         alloc: Global,
+        image: &Image,
         number: u32,
         post: Post<D>,
         limits: Limits,
@@ -227,7 +252,7 @@ impl<D: Domain> Exploration<D> {
         ensures indexed { OnOk result (IsIndexed (values_of D.Domain.own D.eq) self.new) }
     {
         self.note(number, &post.expansion)?;
-        self.follow(alloc, number, post, limits)
+        self.follow(alloc, image, number, post, limits)
     }
 
     fn finish(self) -> Log<D>
@@ -251,7 +276,8 @@ fn push_causes(out: &mut Vec<(u32, Cause)>, number: u32, causes: &[Cause]) -> Re
     Ok(())
 }
 
-/// The log of an image with stubs over a domain, of which the first `budget` rows are expanded. Refuses want of memory alone.
+/// The log of an image with stubs over a domain, of which the first `budget` rows are expanded. It has fewer than 2^32 rows. Refuses want of memory
+/// alone.
 pub fn explore<R: Threads + Sync, D: Domain>(
     rt: &R,
     alloc: Global,
@@ -259,16 +285,33 @@ pub fn explore<R: Threads + Sync, D: Domain>(
     stubs: &Stubs,
     limits: Limits,
 ) -> Result<Log<D>, NoMemory>
-    ensures { IfOk result (λ log. log ≡ image_log (values_of D.Domain.own D.eq) image.now stubs.now limits.k limits.budget) }
+    ensures log { IfOk result (λ log. log ≡ image_log (values_of D.Domain.own D.eq) image.now stubs.now limits.k limits.budget) }
+    ensures few { IfOk result (λ log. length log.rows < 2 ^ 32) }
 {
     let _ = rt;
+    let exploration = explored(alloc, image, stubs, limits)?;
+    if exploration.rows.len() > u32::MAX as usize {
+        return Err(NoMemory);
+    }
+    Ok(exploration.finish())
+}
+
+// The whole log, as it has grown.
+fn explored<D: Domain>(
+    alloc: Global,
+    image: &Image,
+    stubs: &Stubs,
+    limits: Limits,
+) -> Result<Exploration<D>, NoMemory>
+    ensures { IfOk result (λ e. log_in e ≡ image_log (values_of D.Domain.own D.eq) image.now stubs.now limits.k limits.budget) }
+{
     let mut exploration = Exploration::start(alloc, image, limits)?;
     for n in 0..limits.budget {
         let found = exploration.expanded(alloc, image, stubs, limits.k, n)?;
         match found {
-            None => return Ok(exploration.finish()),
-            Some(post) => exploration.take_in(alloc, n, post, limits)?,
+            None => return Ok(exploration),
+            Some(post) => exploration.take_in(alloc, image, n, post, limits)?,
         }
     }
-    Ok(exploration.finish())
+    Ok(exploration)
 }

@@ -5,14 +5,14 @@
 
 mod automaton;
 mod exploring;
-mod fixed_code;
-mod location;
+mod laws;
 mod log;
 mod post;
+mod reading;
 mod site;
 mod visits;
 
 pub use automaton::automaton_of;
 pub use exploring::{Limits, explore};
-pub use fixed_code::has_fixed_code;
+pub use laws::runs_are_followed;
 pub use log::{Log, Row};

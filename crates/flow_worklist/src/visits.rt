@@ -5,27 +5,31 @@ ghost use Rattle.abstract_state.specs.Widening.{seen_with, widened_state};
 ghost use Rattle.flow_worklist.specs.Exploring.{covers_at};
 
 use crate::Row;
+use crate::reading::Reading;
 use abstract_state::{Seen, State};
 use bit_words::NoMemory;
 use domain_laws::Domain;
+use image_loader::Image;
 use std::alloc::Global;
 
-/// What is kept of a location: the numbers of its rows, in order, and the values that their states hold.
+/// What is kept of a location: the numbers of its rows, in order, the values that their states hold, and what the image's bytes there begin with.
 #[derive(Drop)]
 pub struct Visits<D: Domain> {
     pub numbers: Vec<usize>,
     pub seen: Seen<D>,
+    pub reading: Reading,
 }
 
 impl<D: Domain> Visits<D> {
     /// No row yet; takes no memory.
-    pub fn new(alloc: Global) -> Visits<D>
+    pub fn new(alloc: Global, image: &Image, at: u32) -> Visits<D>
         ensures numbers { result.numbers.items ≡ [] }
         ensures seen { result.seen ≡ [] }
     {
         Visits {
             numbers: Vec::new(alloc),
             seen: Seen::new(alloc),
+            reading: Reading::of(image.fetch(at)),
         }
     }
 

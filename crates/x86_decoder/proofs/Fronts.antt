@@ -1,12 +1,13 @@
 -- What goes on to a spelling does so by bytes that are tried.
-use Rattle.std.proofs.Common.{◌≡◌, ℕ, zero, suc, ◌+◌, ◌-◌, ◌<◌, ◌≤◌, Bool, true, false, ◌||◌, List, [], ◌∷◌, ◌++◌, length, Option, Some, None, refl, sym, ◌∙◌, ap, inl, inr, ◌⊎◌, subst, arith, append_assoc, length-append, get_or, zero-add}
+use Rattle.std.proofs.Common.{◌≡◌, ℕ, zero, suc, ◌+◌, ◌-◌, ◌<◌, ◌≤◌, Bool, true, false, ◌||◌, List, [], ◌∷◌, ◌++◌, length, take, drop, Option, Some, None, refl, sym, ◌∙◌, ap, inl, inr, ◌⊎◌, subst, arith, append_assoc, length-append, get_or, zero-add}
 use Rattle.std.specs.Prelude.{All, is_some}
 use Rattle.std.specs.List.{list_any, range_with_len}
+use Rattle.std.proofs.lemmas.List.{take-append-drop, take_all}
 use Rattle.std.proofs.lemmas.List.Folds.{list_any_at}
 use Rattle.std.proofs.lemmas.List.FromFn.{length-range_with_len, get_or-range_with_len}
 use Rattle.x86_syntax.specs.declared.instr.Instr.{Instr}
 use Rattle.x86_syntax.specs.Spelling.{spelled}
-use Rattle.x86_decoder.specs.Refusals.{goes_on}
+use Rattle.x86_decoder.specs.Refusals.{goes_on, IsFront, LeavesAt, GoesOn}
 
 -- at most n bytes more make a spelling
 pub record Further (n : ℕ) (bytes : List ℕ) : Type 0 where
@@ -73,3 +74,20 @@ further_of zero bytes e = cc
 further_of (suc n) bytes e =
     let found = some_tried (λ b. is_some (spelled (bytes ++ b ∷ [])) || goes_on n (bytes ++ b ∷ [])) (range_with_len 0 256) e in
     by_byte n bytes found.0 (further_of n (bytes ++ found.0 ∷ [])) (or_cases (is_some (spelled (bytes ++ found.0 ∷ []))) (goes_on n (bytes ++ found.0 ∷ [])) found.1)
+
+-- a front of a front
+pub front_of : (k : ℕ) (xs : List ℕ) → IsFront xs → IsFront (take k xs)
+front_of k xs (rest, (i, names)) =
+    let whole : take k xs ++ (drop k xs ++ rest) ≡ xs ++ rest = sym (append_assoc (take k xs) (drop k xs) rest) ∙ ap (λ ys. ys ++ rest) (take-append-drop k xs) in
+    (drop k xs ++ rest, (i, ap spelled whole ∙ names))
+
+-- what goes on is a front as a whole
+pub goes_on_front : (bytes : List ℕ) → GoesOn bytes → IsFront (take 15 bytes)
+goes_on_front bytes on =
+    let more : Further (15 - length bytes) bytes = further_of (15 - length bytes) bytes on in
+    let same : take 15 bytes ≡ bytes = take_all 15 bytes (omega (arith, more.more, more.short)) in
+    subst IsFront (sym same) (more.rest, (more.names, more.whole))
+
+-- no spelling leaves where all that counts is a front
+pub not_both : (at : ℕ) (bytes : List ℕ) → LeavesAt at (take 15 bytes) → IsFront (take 15 bytes) → ⊥
+not_both at bytes leaves front = leaves.there (front_of (at + 1) (take 15 bytes) front)

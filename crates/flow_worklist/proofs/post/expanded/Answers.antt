@@ -1,15 +1,14 @@
 -- Each arm is one case of the expansion.
 use Rattle.std.proofs.Common.{refl, sym, ◌∙◌}
 use Rattle.domain_laws.specs.Made.{values_of}
-use Rattle.flow_worklist.specs.declared.site.Site.TheVariants.{Exit, Unlisted}
 use Rattle.flow_worklist.specs.declared.post.Post.{Post}
-use Rattle.flow_worklist.proofs.Posting.{import_named, with_call, with_steps, without_steps}
+use Rattle.flow_worklist.proofs.Posting.{at_exit, import_named, with_call, with_code_ok}
 use Rattle.flow_worklist.proofs.post.expanded.Goals as goal
 
 pub returns-in-Exit : goal.returns-in-Exit
 returns-in-Exit g c =
-    without_steps (values_of g.D.Domain g.D.PartialEq.eq) c.args.image.now c.args.stubs.now c.args.k c.args.at c.args.s.now Exit c.without_steps.result (sym c.in-Exit.ensures)
-    c.without_steps.ensures.at (c.without_steps.ensures.expansion ∙ c.nothing.ensures) refl
+    at_exit (values_of g.D.Domain g.D.PartialEq.eq) c.args.image.now c.args.stubs.now c.args.k c.args.at c.args.s.now c.without_steps.result (sym c.in-Exit.ensures)
+    c.without_steps.ensures.at (c.without_steps.ensures.expansion ∙ c.nothing.ensures)
 
 pub expand_stub-requires-after_bounds : goal.expand_stub-requires-after_bounds
 expand_stub-requires-after_bounds g c = λ κs within. import_named c.args.image.now c.args.at (sym c.in-Import.ensures)
@@ -23,13 +22,6 @@ returns-in_ok-import_label-in-Import g c =
     with_call (values_of g.D.Domain g.D.PartialEq.eq) c.args.image.now c.args.stubs.now c.args.k c.args.at c.args.s.now answer (sym c.in-Import.ensures)
     refl c.in_ok-expand_stub-in-Import.ensures c.in_ok-import_label-in-Import.ensures
 
-pub returns-in_ok-expand_instr-in-Listed : goal.returns-in_ok-expand_instr-in-Listed
-returns-in_ok-expand_instr-in-Listed g c =
-    let answer : Post g.row.D.Denot = record { at = c.args.at; expansion = c.in_ok-expand_instr-in-Listed.field-0; label = c.code_label.result } in
-    with_steps (values_of g.D.Domain g.D.PartialEq.eq) c.args.image.now c.args.stubs.now c.args.k c.args.at c.args.s.now c.in-Listed.i c.in-Listed.size answer (sym c.in-Listed.ensures)
-    refl c.in_ok-expand_instr-in-Listed.ensures c.code_label.ensures
-
-pub returns-in_ok-caused-in-Unlisted : goal.returns-in_ok-caused-in-Unlisted
-returns-in_ok-caused-in-Unlisted g c =
-    without_steps (values_of g.D.Domain g.D.PartialEq.eq) c.args.image.now c.args.stubs.now c.args.k c.args.at c.args.s.now Unlisted c.without_steps-in-Unlisted.result (sym c.in-Unlisted.ensures)
-    c.without_steps-in-Unlisted.ensures.at (c.without_steps-in-Unlisted.ensures.expansion ∙ c.in_ok-caused-in-Unlisted.ensures) refl
+pub returns-in-Code : goal.returns-in-Code
+returns-in-Code g c =
+    with_code_ok (values_of g.D.Domain g.D.PartialEq.eq) c.args.image.now c.args.stubs.now c.args.k c.args.at c.args.s.now c.at_code.result (sym c.in-Code.ensures) c.at_code.ensures

@@ -1,12 +1,12 @@
 -- A row at the location covers the state where the code finds one by its number.
-use Rattle.std.proofs.Common.{◌≡◌, true, false, List, [], ◌∷◌, ◌++◌, Bool, cond, Some, sym, ◌∙◌, ap}
+use Rattle.std.proofs.Common.{◌≡◌, true, false, List, sym, ◌∙◌, ap}
 use Rattle.std.proofs.lemmas.Result.{on_ok_weaker}
 use Rattle.std.specs.List.{list_any}
 use Rattle.domain_laws.specs.Made.{values_of}
-use Rattle.flow_log.specs.Log.{Row, row_after, states_at, with_row}
-use Rattle.abstract_state.specs.State.{Known, covers_state}
+use Rattle.flow_log.specs.Log.{Row}
+use Rattle.abstract_state.specs.State.{Known}
 use Rattle.flow_worklist.specs.Exploring.{covers_at}
-use Rattle.flow_worklist.proofs.Indexing.{any_covers, with_row_by}
+use Rattle.flow_worklist.proofs.Indexing.{with_row_by}
 use Rattle.flow_worklist.proofs.exploring.Exploration.add_row.Goals as goal
 
 pub returns-then-covers-clause-rows : goal.returns-then-covers-clause-rows

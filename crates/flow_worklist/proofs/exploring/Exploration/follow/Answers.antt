@@ -1,6 +1,6 @@
 -- One more pair.
-use Rattle.std.proofs.Common.{◌≡◌, ◌+◌, ℕ, List, [], ◌∷◌, length, refl, sym, ◌∙◌, ap, arith, rules, vec_len}
-use Rattle.std.specs.Vec.Iter.{into_iter_items, into_iter_len}
+use Rattle.std.proofs.Common.{◌≡◌, ℕ, List, [], ◌∷◌, length, refl, sym, ◌∙◌, ap, arith, vec_len}
+use Rattle.std.specs.Vec.Iter.{into_iter_items}
 use Rattle.domain_laws.specs.Made.{values_of}
 use Rattle.flow_log.specs.declared.edge.Label.{Label}
 use Rattle.flow_log.specs.Log.{with_next_pair, with_next_pairs}

@@ -1,5 +1,5 @@
 -- One row more is one number more at its location, and nothing elsewhere.
-use Rattle.std.proofs.Common.{rules, ◌≡◌, true, length, List, [], ◌∷◌, ◌++◌, sym, ◌∙◌, ap, subst, ◌==◌}
+use Rattle.std.proofs.Common.{rules, ◌≡◌, length, List, [], ◌∷◌, ◌++◌, sym, ◌∙◌, ap, subst, ◌==◌}
 use Rattle.std.specs.HashMap.{get}
 use Rattle.std.specs.Prelude.{nat_eq}
 use Rattle.std.proofs.lemmas.Bool.{eq-eqb}

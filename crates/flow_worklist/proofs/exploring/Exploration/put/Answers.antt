@@ -2,7 +2,6 @@
 use Rattle.std.specs.Prelude.{nat_eq}
 use Rattle.std.specs.HashMap.{get}
 use Rattle.domain_laws.specs.Made.{values_of}
-use Rattle.flow_worklist.specs.Exploring.{IsIndexed}
 use Rattle.flow_worklist.proofs.Indexing.{kept_put}
 use Rattle.flow_worklist.proofs.exploring.Exploration.put.Goals as goal
 

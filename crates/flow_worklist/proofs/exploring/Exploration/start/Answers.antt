@@ -8,7 +8,7 @@ use Rattle.domain_laws.specs.Made.{values_of}
 use Rattle.flow_log.specs.Log.{Row}
 use Rattle.abstract_state.specs.State.{Known}
 use Rattle.abstract_state.specs.Widening.{seen_with}
-use Rattle.flow_worklist.specs.Exploring.{IsOf, IsIndexed}
+use Rattle.flow_worklist.specs.Exploring.{IsOf}
 use Rattle.flow_worklist.proofs.Indexing.{is_new, is_more, kept_put, row_there}
 use Rattle.flow_worklist.proofs.exploring.Exploration.start.Goals as goal
 
@@ -16,11 +16,11 @@ pub returns-clause-indexed : goal.returns-clause-indexed
 returns-clause-indexed g c =
     let d = values_of g.D.Domain g.D.PartialEq.eq in
     let row = c.new.result in
-    let at = c.entry.result in
+    let at = c.entry-2.result in
     let first = c.add.new.self in
     let rows = c.push.new.self.items in
     let rows_are : rows ≡ row ∷ [] = c.in_ok-push.ensures.items ∙ ap (λ l. l ++ row ∷ []) c.new-rows.ensures.items in
-    let located : row.location ≡ at = ap (λ r. r.location) c.new.ensures ∙ c.entry-2.ensures.entry ∙ sym c.entry.ensures.entry in
+    let located : row.location ≡ at = ap (λ r. r.location) c.new.ensures ∙ c.entry-3.ensures.entry ∙ sym c.entry-2.ensures.entry in
     let stated : row.state ≡ c.in_ok-state.state = ap (λ r. r.state) c.new.ensures in
     let none : IsOf d c.new-first.result at [] = is_new d c.new-first.result at [] c.new-first.ensures.numbers c.new-first.ensures.seen refl in
     let seen : first.seen ≡ seen_with d row.state c.new-first.result.seen = c.in_ok-add.ensures.seen ∙ ap (λ s. seen_with d s c.new-first.result.seen) (sym stated) in

@@ -8,7 +8,7 @@ use Rattle.flow_worklist.specs.declared.post.Post.{Post}
 use Rattle.flow_worklist.specs.PostOf.{IsPostOfRow}
 use Rattle.flow_worklist.specs.Exploring.{log_in}
 use Rattle.flow_worklist.proofs.Expanding.{expanded_is, explored_one, explored_past, explored_spent, explored_all, row_found, none_found}
-use Rattle.flow_worklist.proofs.exploring.explore.Goals as goal
+use Rattle.flow_worklist.proofs.exploring.explored.Goals as goal
 
 pub loop-n-init : goal.loop-n-init
 loop-n-init g c =
@@ -30,7 +30,7 @@ returns-in-None g c =
     let budget = c.args.limits.budget in
     let log = log_in c.loop-n.exploration in
     let none : slice_get log.rows c.loop-n.n ≡ None = none_found d c.args.image.now c.args.stubs.now c.args.limits.k log.rows c.loop-n.n (let P : Option (Post g.row.D.Denot) → Type 0 = IsPostOfRow d c.args.image.now c.args.stubs.now c.args.limits.k (slice_get log.rows c.loop-n.n) in subst P c.in-None.is c.in_ok-found.ensures) in
-    c.finish.ensures ∙ sym (explored_past d c.args.image.now c.args.stubs.now c.args.limits.k budget (budget - c.loop-n.n) c.loop-n.n log none) ∙ c.loop-n.invariant.log
+    sym (explored_past d c.args.image.now c.args.stubs.now c.args.limits.k budget (budget - c.loop-n.n) c.loop-n.n log none) ∙ c.loop-n.invariant.log
 
 pub loop-n-preserved : goal.loop-n-preserved
 loop-n-preserved g c =
@@ -56,5 +56,5 @@ returns g c =
     let budget = c.args.limits.budget in
     let log = log_in c.loop-n.exploration in
     let spent : budget - c.loop-n.n ≡ 0 = omega arith in
-    c.finish-2.ensures ∙ sym (ap (λ f. explored (analysis_of d c.args.image.now c.args.stubs.now c.args.limits.k) budget f c.loop-n.n log) spent ∙ explored_spent d c.args.image.now c.args.stubs.now c.args.limits.k budget c.loop-n.n log)
+    sym (ap (λ f. explored (analysis_of d c.args.image.now c.args.stubs.now c.args.limits.k) budget f c.loop-n.n log) spent ∙ explored_spent d c.args.image.now c.args.stubs.now c.args.limits.k budget c.loop-n.n log)
     ∙ c.loop-n.invariant.log

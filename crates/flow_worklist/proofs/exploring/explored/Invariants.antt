@@ -3,7 +3,7 @@ use Rattle.domain_laws.specs.Made.{values_of}
 use Rattle.flow_log.specs.Log.{explored}
 use Rattle.flow_worklist.specs.Analysis.{analysis_of, image_log}
 use Rattle.flow_worklist.specs.Exploring.{IsIndexed, log_in}
-use Rattle.flow_worklist.proofs.exploring.explore.Given as goal
+use Rattle.flow_worklist.proofs.exploring.explored.Given as goal
 
 abbrev pub invariant-loop-n : goal.invariant-loop-n
 invariant-loop-n g l = record {
