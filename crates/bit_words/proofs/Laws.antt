@@ -1,14 +1,15 @@
 -- Laws of words and of the operators, each once over the width.
-use Rattle.std.proofs.Common.{◌≡◌, ℕ, ◌+◌, ◌-◌, ◌*◌, ◌/◌, ◌%◌, ◌^◌, ◌<◌, ◌≤◌, min, Bool, true, false, refl, sym, ap, ◌∙◌, arith, ltb, eqb, ℤ, pos, negsuc, ◌*ℤ◌, lit<}
-use Rattle.std.proofs.lemmas.Nat.{pow_pos, or_lt, xor_lt, and_le_l, shr_le, mul-le, and_mask, div-add-mod'}
+use Rattle.std.proofs.Common.{◌≡◌, ℕ, ◌+◌, ◌-◌, ◌*◌, ◌/◌, ◌%◌, ◌^◌, ◌<◌, ◌≤◌, min, Bool, true, false, cond, refl, sym, ap, ◌∙◌, arith, ltb, eqb, ◌==◌, ℤ, pos, negsuc, ◌*ℤ◌, lit<}
+use Rattle.std.proofs.lemmas.Nat.{pow_pos, or_lt, xor_lt, and_le_l, shr_le, trailing_le, mul-le, and_mask, div-add-mod'}
 use Rattle.std.proofs.Math.Nat.{mod-lt, mod-eq_of_lt, div-lt_iff_lt-mul, zero-mod, pow-le-pow_right, mul-mod_left, mod-mod}
 use Rattle.std.proofs.lemmas.Nat.Bits.{and_high_mask}
+use Rattle.std.specs.Int.{leading_zeros, trailing_zeros, w32}
 use Rattle.std.specs.Int.Bits.{and_self, and_zero_r, xor_self}
 use Rattle.std.proofs.Math.Pow.{mod-mod-pow}
 use Rattle.bit_words.specs.declared.width.Width.{Width}
 use Rattle.bit_words.specs.declared.width.Width.TheVariants.{B8, B16, B32}
 use Rattle.bit_words.specs.declared.op.Op.{Op}
-use Rattle.bit_words.specs.declared.op.Op.TheVariants.{Add, Sub, And, Or, Xor, Not, Neg, Mul, HighU, HighS, Shl, Shr, Sar, Rol, Ror, Eq, Ult, Low8, High8, Low16, PutLow8, PutHigh8, PutLow16, Sign8, Sign16, Swap}
+use Rattle.bit_words.specs.declared.op.Op.TheVariants.{Add, Sub, And, Or, Xor, Not, Neg, Mul, HighU, HighS, Shl, Shr, Sar, Rol, Ror, Eq, Ult, Low8, High8, Low16, PutLow8, PutHigh8, PutLow16, Sign8, Sign16, Swap, LowBit, HighBit}
 use Rattle.bit_words.specs.Width.{bits_of, cut, signed_of, modulo}
 use Rattle.bit_words.specs.Operators.{apply_op, formula, one_if, takes_count, operand, rotated, shifted_down}
 use Rattle.bit_words.proofs.Words.{rotated-lt, rotated-rotated, bits_of-pos}
@@ -42,6 +43,13 @@ high_signed-lt B8 z = let h = modulo-lt z 16 in omega arith
 high_signed-lt B16 z = let h = modulo-lt z 32 in omega arith
 high_signed-lt B32 z = let h = modulo-lt z 64 in omega arith
 
+-- the place of a bit, or 0
+bit_place-lt : (w : Width) (none : Bool) (place : ℕ) → place ≤ 32 → cond none 0 place < 2 ^ bits_of w
+bit_place-lt w true place small = pow_pos (bits_of w)
+bit_place-lt B8 false place small = omega arith
+bit_place-lt B16 false place small = omega arith
+bit_place-lt B32 false place small = omega arith
+
 -- a formula's value fits the width, where its first operand does, and its second where it is no count
 pub formula-lt : (op : Op) (w : Width) (x y : ℕ) → x < 2 ^ bits_of w → (takes_count op ≡ false → y < 2 ^ bits_of w) → formula op w x y < 2 ^ bits_of w
 unfolding formula
@@ -71,6 +79,8 @@ formula-lt PutLow16 w x y p q = cut-lt w _
 formula-lt Sign8 w x y p q = modulo-lt (signed_of B8 x) (bits_of w)
 formula-lt Sign16 w x y p q = modulo-lt (signed_of B16 x) (bits_of w)
 formula-lt Swap w x y p q = cut-lt w _
+formula-lt LowBit w x y p q = bit_place-lt w (x == 0) (trailing_zeros w32 x) (trailing_le 32 x)
+formula-lt HighBit w x y p q = bit_place-lt w (x == 0) (31 - leading_zeros w32 x) (omega arith)
 
 operand-lt : (op : Op) (w : Width) (b : ℕ) → takes_count op ≡ false → operand op w b < 2 ^ bits_of w
 operand-lt op w b e = rw e (cut-lt w b)

@@ -1,9 +1,10 @@
--- The 26 operators, as formulas over numbers. Source: Intel manual, volume 2, the operation of the instructions named.
+-- The 28 operators, as formulas over numbers. Source: Intel manual, volume 2, the operation of the instructions named.
 use Rattle.std.specs.Prelude.{ℕ, ◌+◌, ◌-◌, ◌*◌, ◌/◌, ◌%◌, ◌^◌, min, Bool, true, false, nat_lt, ◌==◌, if◌then◌else◌, bit_and, bit_or, bit_xor, ℤ, pos, negsuc, ◌*ℤ◌}
+use Rattle.std.specs.Int.{leading_zeros, trailing_zeros, w32}
 use Rattle.bit_words.specs.declared.width.Width.{Width}
 use Rattle.bit_words.specs.declared.width.Width.TheVariants.{B8, B16}
 use Rattle.bit_words.specs.declared.op.Op.{Op}
-use Rattle.bit_words.specs.declared.op.Op.TheVariants.{Add, Sub, And, Or, Xor, Not, Neg, Mul, HighU, HighS, Shl, Shr, Sar, Rol, Ror, Eq, Ult, Low8, High8, Low16, PutLow8, PutHigh8, PutLow16, Sign8, Sign16, Swap}
+use Rattle.bit_words.specs.declared.op.Op.TheVariants.{Add, Sub, And, Or, Xor, Not, Neg, Mul, HighU, HighS, Shl, Shr, Sar, Rol, Ror, Eq, Ult, Low8, High8, Low16, PutLow8, PutHigh8, PutLow16, Sign8, Sign16, Swap, LowBit, HighBit}
 use Rattle.bit_words.specs.Width.{bits_of, cut, signed_of, modulo, word_of}
 
 -- 1 where a test holds, else 0
@@ -30,6 +31,14 @@ bytes_reversed x = x % 256 * 2 ^ 24 + x / 2 ^ 8 % 256 * 2 ^ 16 + x / 2 ^ 16 % 25
 -- the upper half of the product of x and y as signed numbers: bits w to 2w - 1 of its two's complement (IMUL)
 abbrev pub high_signed : Width → ℕ → ℕ → ℕ
 high_signed w x y = modulo (signed_of w x *ℤ signed_of w y) (2 ^ (2 * bits_of w)) / 2 ^ bits_of w
+
+-- the place of the least set bit of x, and 0 for 0: as many zeros stand below it (BSF)
+abbrev pub lowest_bit : ℕ → ℕ
+lowest_bit x = if x == 0 then 0 else trailing_zeros w32 x
+
+-- the place of the greatest set bit of x, and 0 for 0: of 32 bits, those above it are zeros (BSR)
+abbrev pub highest_bit : ℕ → ℕ
+highest_bit x = if x == 0 then 0 else 31 - leading_zeros w32 x
 
 -- whether the second operand is a count of places, which is taken as given
 abbrev pub takes_count : Op → Bool
@@ -68,6 +77,8 @@ formula PutLow16 w x y = cut w (with_part 0 16 x y)
 formula Sign8 w x y = word_of w (signed_of B8 x)
 formula Sign16 w x y = word_of w (signed_of B16 x)
 formula Swap w x y = cut w (bytes_reversed x)
+formula LowBit w x y = lowest_bit x
+formula HighBit w x y = highest_bit x
 
 -- the second operand: cut to the width where it is no count
 abbrev pub operand : Op → Width → ℕ → ℕ

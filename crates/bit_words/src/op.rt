@@ -1,5 +1,5 @@
 ghost use Rattle.std.specs.Prelude.{◌≡◌, ◌*◌, ◌*ℤ◌, ◌/◌, ◌^◌, ◌<◌, ◌≤◌};
-ghost use Rattle.bit_words.specs.Operators.{apply_op, rotated};
+ghost use Rattle.bit_words.specs.Operators.{apply_op, highest_bit, lowest_bit, rotated};
 ghost use Rattle.bit_words.specs.Width.{bits_of, modulo};
 
 use crate::width::Width;
@@ -41,6 +41,10 @@ pub enum Op {
     Sign16,
     /// The four bytes in reverse.
     Swap,
+    /// The place of the least set bit, 0 where none is set.
+    LowBit,
+    /// The place of the greatest set bit, 0 where none is set.
+    HighBit,
 }
 
 /// The value of an operator. An operand that is no count of places is first cut to the width; an operator of one operand ignores `b`.
@@ -77,6 +81,8 @@ pub fn apply(op: Op, w: Width, a: u32, b: u32) -> u32
         Op::Sign8 => w.word(i64::from(Width::B8.signed(x))),
         Op::Sign16 => w.word(i64::from(Width::B16.signed(x))),
         Op::Swap => w.cut(x.swap_bytes()),
+        Op::LowBit => lowest_bit(x),
+        Op::HighBit => highest_bit(x),
     }
 }
 
@@ -112,4 +118,18 @@ fn rotated_left(w: Width, x: u32, count: u32) -> u32
     let low = u64::from(x) % (1 << stay);
     let high = u64::from(x) >> stay;
     ((low << count) + high) as u32
+}
+
+// The place of the least set bit.
+fn lowest_bit(x: u32) -> u32
+    ensures { result ≡ lowest_bit x }
+{
+    if x == 0 { 0 } else { x.trailing_zeros() }
+}
+
+// The place of the greatest set bit.
+fn highest_bit(x: u32) -> u32
+    ensures { result ≡ highest_bit x }
+{
+    if x == 0 { 0 } else { 31 - x.leading_zeros() }
 }

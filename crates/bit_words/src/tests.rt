@@ -5,7 +5,7 @@ use crate::width::Width::{self, B8, B16, B32};
 use bitflags::Flags as _;
 
 // Worked by hand from the operations of the manual's instructions.
-static VALUES: [(Op, Width, u32, u32, u32); 96] = [
+static VALUES: [(Op, Width, u32, u32, u32); 108] = [
     (Add, B8, 0xFF, 0x01, 0x00),
     (Add, B8, 0x1FF, 0x101, 0x00),
     (Add, B16, 0xFFFF, 0x0001, 0x0000),
@@ -102,6 +102,18 @@ static VALUES: [(Op, Width, u32, u32, u32); 96] = [
     (Sign16, B32, 0x1234_FFFF, 0, 0xFFFF_FFFF),
     (Swap, B32, 0x1234_5678, 0, 0x7856_3412),
     (Swap, B32, 0x0000_00FF, 0, 0xFF00_0000),
+    (LowBit, B32, 0x0000_0000, 0, 0),
+    (LowBit, B32, 0x0000_0050, 0, 4),
+    (LowBit, B32, 0x8000_0000, 0, 31),
+    (LowBit, B32, 0xFFFF_FFFF, 0, 0),
+    (LowBit, B16, 0x1_8000, 0, 15),
+    (LowBit, B8, 0x100, 0, 0),
+    (HighBit, B32, 0x0000_0000, 0, 0),
+    (HighBit, B32, 0x0000_0050, 0, 6),
+    (HighBit, B32, 0x0000_0001, 0, 0),
+    (HighBit, B32, 0xFFFF_FFFF, 0, 31),
+    (HighBit, B16, 0x1_0010, 0, 4),
+    (HighBit, B8, 0x17F, 0, 6),
 ];
 
 // Operands, the carry or borrow, and what is left: OF SF ZF AF PF CF.

@@ -7,7 +7,7 @@ use Rattle.std.proofs.lemmas.Nat.{pow_pos, and_comm, or_comm, or_lt, le_or_r}
 use Rattle.bit_words.specs.declared.width.Width.{Width}
 use Rattle.bit_words.specs.declared.width.Width.TheVariants.{B32}
 use Rattle.bit_words.specs.declared.op.Op.{Op}
-use Rattle.bit_words.specs.declared.op.Op.TheVariants.{Add, Sub, And, Or, Not, Neg, Shl, Low8, High8, Low16, Sign8, Sign16, Swap}
+use Rattle.bit_words.specs.declared.op.Op.TheVariants.{Add, Sub, And, Or, Not, Neg, Shl, Low8, High8, Low16, Sign8, Sign16, Swap, LowBit, HighBit}
 use Rattle.bit_words.specs.Width.{bits_of, cut}
 use Rattle.bit_words.specs.Operators.{apply_op, formula}
 use Rattle.bit_words.proofs.Laws.{and-zero, cut_fit}
@@ -57,6 +57,8 @@ one_operand Low16 w x y z e = refl
 one_operand Sign8 w x y z e = refl
 one_operand Sign16 w x y z e = refl
 one_operand Swap w x y z e = refl
+one_operand LowBit w x y z e = refl
+one_operand HighBit w x y z e = refl
 one_operand op w x y z e = absurd (cc)
 
 numbers-right : (op : Op) (w : Width) (a b : Option ℕ) (x y : ℕ) → Allows a x → Allows b y → IsRight op w x y (by_numbers op w a b)

@@ -2,7 +2,7 @@
 use Rattle.std.specs.Prelude.{ℕ, ◌-◌, ◌^◌, Bool, true, false, ◌||◌, ◌==◌, Option, Some, None, if◌then◌else◌}
 use Rattle.std.specs.Option.{option_or}
 use Rattle.bit_words.specs.declared.op.Op.{Op}
-use Rattle.bit_words.specs.declared.op.Op.TheVariants.{Add, Sub, And, Or, Not, Neg, Shl, Low8, High8, Low16, Sign8, Sign16, Swap}
+use Rattle.bit_words.specs.declared.op.Op.TheVariants.{Add, Sub, And, Or, Not, Neg, Shl, Low8, High8, Low16, Sign8, Sign16, Swap, LowBit, HighBit}
 use Rattle.bit_words.specs.declared.width.Width.{Width}
 use Rattle.bit_words.specs.declared.width.Width.TheVariants.{B32}
 use Rattle.bit_words.specs.Width.{bits_of}
@@ -20,6 +20,8 @@ has_one_operand Low16 = true
 has_one_operand Sign8 = true
 has_one_operand Sign16 = true
 has_one_operand Swap = true
+has_one_operand LowBit = true
+has_one_operand HighBit = true
 has_one_operand op = false
 
 -- an operand is known to be the number k

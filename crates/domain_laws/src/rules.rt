@@ -64,7 +64,16 @@ fn has_one_operand(op: Op) -> bool
 {
     matches!(
         op,
-        Op::Not | Op::Neg | Op::Low8 | Op::High8 | Op::Low16 | Op::Sign8 | Op::Sign16 | Op::Swap
+        Op::Not
+            | Op::Neg
+            | Op::Low8
+            | Op::High8
+            | Op::Low16
+            | Op::Sign8
+            | Op::Sign16
+            | Op::Swap
+            | Op::LowBit
+            | Op::HighBit
     )
 }
 
@@ -96,6 +105,21 @@ mod tests {
                 Some(Settled::Number(0x0403_0201)),
             ),
             (Op::Swap, Width::B32, None, Some(0), None),
+            (
+                Op::LowBit,
+                Width::B32,
+                Some(0x10),
+                None,
+                Some(Settled::Number(4)),
+            ),
+            (
+                Op::HighBit,
+                Width::B16,
+                Some(0x8010),
+                None,
+                Some(Settled::Number(15)),
+            ),
+            (Op::HighBit, Width::B32, None, Some(0), None),
             (Op::And, Width::B8, None, Some(0), Some(Settled::Number(0))),
             (Op::And, Width::B8, Some(0), None, Some(Settled::Number(0))),
             (

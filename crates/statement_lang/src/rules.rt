@@ -2,7 +2,7 @@ ghost use Rattle.std.specs.Prelude.{◌≡◌, ◌*◌, ◌-◌, ◌%◌, ◌^�
 ghost use Rattle.std.specs.Bool.{xor};
 ghost use Rattle.bit_words.specs.Flags.{difference_flags, flags_by, has_sign, logic_flags, sum_flags, unpacked};
 ghost use Rattle.bit_words.specs.Width.{bits_of, cut, is_signed, signed_of};
-ghost use Rattle.x86_semantics.specs.FlagRules.{both_by, freed_by, is_set, of_result, rotate_left_flags, rotate_right_flags, ruled, shift_left_flags, shift_right_flags, status_flags, unless_zero, with_status};
+ghost use Rattle.x86_semantics.specs.FlagRules.{both_by, changes_sign, freed_by, is_set, of_result, rotate_left_flags, rotate_right_flags, ruled, shift_left_flags, shift_right_flags, status_flags, unless_zero, with_status};
 ghost use Rattle.statement_lang.specs.Cells.{flags_of};
 ghost use Rattle.statement_lang.specs.Run.{set_to};
 
@@ -57,6 +57,17 @@ fn with_overflow(flags: Flags, overflow: bool) -> Flags
     }
 }
 
+// The flags with another ZF.
+fn with_zero(flags: Flags, zero: bool) -> Flags
+    ensures { flags_of result ≡ record (flags_of flags) { zero = zero } }
+{
+    if zero {
+        flags.replaced(Flags::ZERO, Flags::ZERO)
+    } else {
+        flags.replaced(Flags::ZERO, Flags::empty())
+    }
+}
+
 fn with_both(flags: Flags, carry: bool, overflow: bool) -> Flags
     ensures { flags_of result ≡ record (flags_of flags) { carry = carry; overflow = overflow } }
 {
@@ -89,6 +100,13 @@ fn has_sign(w: Width, r: u32) -> bool
     ensures { result ≡ has_sign w (cut w r) }
 {
     w.cut(r) >= w.top()
+}
+
+// Whether the top bit of a word is another than that of its result.
+fn changes_sign(w: Width, a: u32, r: u32) -> bool
+    ensures { result ≡ changes_sign w a r }
+{
+    differ(has_sign(w, r), has_sign(w, a))
 }
 
 fn shift_left(w: Width, a: u32, c: u32, r: u32, flags: Flags) -> Flags
@@ -199,10 +217,13 @@ pub fn ruled(rule: FlagRule, w: Width, a: u32, b: u32, r: u32, flags: Flags) -> 
         FlagRule::ShiftLeft => by_shift_left(w, a, b % 32, r, flags),
         FlagRule::ShiftRight => by_shift_right(w, a, b % 32, r, has_sign(w, a), flags),
         FlagRule::ShiftRightSigned => by_shift_right(w, a, b % 32, r, false, flags),
+        FlagRule::ShiftRightDouble => by_shift_right(w, a, b % 32, r, changes_sign(w, a, r), flags),
         FlagRule::RotateLeft => by_rotate_left(w, b % 32, r, flags),
         FlagRule::RotateRight => by_rotate_right(w, b % 32, r, flags),
         FlagRule::Product => both_by(is_long_product(w, w.cut(a), w.cut(b)), flags),
         FlagRule::SignedProduct => both_by(is_long_signed_product(w, a, b), flags),
+        FlagRule::BitTest => with_carry(flags, is_set(w.cut(a), b % w.bits())),
+        FlagRule::BitScan => with_zero(flags, w.cut(a) == 0),
         FlagRule::Status => by_status(a, flags),
     }
 }

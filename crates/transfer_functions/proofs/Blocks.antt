@@ -1,5 +1,5 @@
 -- A store changes no count of blocks.
-use Rattle.std.proofs.Common.{◌≡◌, ◌∙◌, ℕ, ◌+◌, ◌-◌, Bool, true, false, ◌==◌, cond, List, [], ◌∷◌, refl, ap}
+use Rattle.std.proofs.Common.{◌≡◌, ◌∙◌, ℕ, ◌+◌, ◌-◌, Bool, true, false, ◌==◌, cond, List, [], ◌∷◌, refl}
 use Rattle.std.specs.Prelude.{fold, ℤ, pos, ◌+ℤ◌, ◌-ℤ◌, int_lt}
 use Rattle.std.specs.Ordering.{int_eq}
 use Rattle.bit_words.specs.declared.width.Width.{Width}
@@ -18,7 +18,6 @@ use Rattle.partitioned_memory.specs.declared.area.Area.TheVariants as areas
 use Rattle.partitioned_memory.specs.declared.fact.Counted.{Counted}
 use Rattle.partitioned_memory.specs.Areas.{interval_to}
 use Rattle.partitioned_memory.specs.Held.{PartsHeld, after_exact, after_inside, after_interval}
-use Rattle.flow_log.specs.declared.cause.Cause.TheVariants as causes
 use Rattle.abstract_state.specs.declared.stored.Stored.TheVariants.{Done, Faults, Stopped}
 use Rattle.abstract_state.specs.Expanding.{Path}
 use Rattle.abstract_state.specs.Accessing.{StoredPath, after_span, cause_outside, is_in_fault_zone, lies_in_extent, region_parts, stored, stored_among, stored_at, stored_by, stored_in, touches_fault_zone, with_region_parts, with_spans, with_word}

@@ -1,5 +1,5 @@
 -- The code that a row knows: how it is run through, and that it is what the machine fetches.
-use Rattle.std.proofs.Common.{ℕ, zero, suc, ◌≡◌, ◌+◌, ◌-◌, ◌<◌, ◌≤◌, ◌^◌, Bool, true, false, cond, List, [], ◌∷◌, ◌++◌, map, length, Option, Some, None, refl, sym, ap, ◌∙◌, arith, inl, inr, append_assoc, length-append, zero-add}
+use Rattle.std.proofs.Common.{ℕ, zero, suc, ◌≡◌, ◌+◌, ◌-◌, ◌<◌, ◌≤◌, true, false, List, [], ◌∷◌, ◌++◌, map, length, Option, Some, None, refl, sym, ap, ◌∙◌, arith, inl, inr, append_assoc, length-append, zero-add}
 use Rattle.std.specs.Prelude.{nat_lt, is_some, option_and_then, slice_get, unwrap_or, All, AllPairs, Contains}
 use Rattle.std.specs.List.{list_any}
 use Rattle.std.proofs.lemmas.Bool.{cases_Bool, false≢true, lt-ltb}
@@ -9,12 +9,11 @@ use Rattle.std.proofs.lemmas.List.Elements.{All-head, All-tail}
 use Rattle.std.proofs.lemmas.List.Folds.{list_any_at}
 use Rattle.memory_map.specs.Image.{Image}
 use Rattle.memory_map.specs.Range.{AreApart, IsInUserSpace, LONGEST_INSTRUCTION, Mapping, Range, USER_END, byte_at, code_at, code_run, cons_or_end, has, mapping_of, run_of}
-use Rattle.memory_map.specs.State.{MachineState, memory}
+use Rattle.memory_map.specs.State.{memory}
 use Rattle.memory_map.proofs.Lists.{byte_at-here, byte_at-there, code_at-here, code_at-none, code_at-not_code, code_at-not_here, run_of-goes, run_of-stops}
 use Rattle.memory_map.proofs.Mappings.{apart_not_in, is_mapped, lies_at, mapped_inside, pairs_head, pairs_tail}
 use Rattle.x86_semantics.proofs.Storing.{byte-fits}
 use Rattle.flow_log.proofs.Members.{Contains-cases}
-use Rattle.address_regions.specs.Places.{Places}
 use Rattle.domain_laws.specs.Laws.{IsLawful, Values}
 use Rattle.partitioned_memory.specs.KnownBytes.{known_image_byte}
 use Rattle.partitioned_memory.proofs.KnownBytes.{known-byte_stands}

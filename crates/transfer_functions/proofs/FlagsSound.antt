@@ -5,6 +5,7 @@ use Rattle.std.specs.Bool.{xor}
 use Rattle.address_regions.specs.Places.{Places, IsValid}
 use Rattle.bit_words.specs.declared.width.Width.{Width}
 use Rattle.bit_words.specs.declared.op.Op.TheVariants.{Add, Sub, Neg, Eq, Ult}
+use Rattle.bit_words.specs.declared.flags.Flags.{Flags as FlagSet}
 use Rattle.bit_words.specs.Flags.{FlagBits, flags_by, sum_flags, sum_of, difference_flags, difference_of, logic_flags, adjust_of, has_even_parity, has_sign}
 use Rattle.bit_words.specs.Operators.{apply_op, one_if}
 use Rattle.bit_words.specs.Width.{bits_of, cut, signed_of, is_signed}
@@ -14,16 +15,17 @@ use Rattle.domain_laws.specs.Laws.{Values, IsLawful}
 use Rattle.memory_map.specs.declared.choice.Choice.{Choice}
 use Rattle.memory_map.specs.State.{Flags}
 use Rattle.x86_semantics.specs.declared.flag_rule.FlagRule.{FlagRule}
-use Rattle.x86_semantics.specs.declared.flag_rule.FlagRule.TheVariants.{Sum, SumWithCarry, Difference, DifferenceWithBorrow, Increment, Decrement, Negation, Logic, ShiftLeft, ShiftRight, ShiftRightSigned, RotateLeft, RotateRight, Product, SignedProduct, Status}
-use Rattle.x86_semantics.specs.FlagRules.{flags_after, chosen, ruled, is_set, with_status, freed, no_flags, carry_flag, adjust_flag, overflow_flag, shift_left_flags, shift_right_flags, rotate_left_flags, rotate_right_flags, unless_zero}
-use Rattle.x86_semantics.specs.Shifts.{shifted_flags, freed_if}
+use Rattle.x86_semantics.specs.declared.flag_rule.FlagRule.TheVariants.{Sum, SumWithCarry, Difference, DifferenceWithBorrow, Increment, Decrement, Negation, Logic, ShiftLeft, ShiftRight, ShiftRightSigned, ShiftRightDouble, RotateLeft, RotateRight, Product, SignedProduct, BitTest, BitScan, Status}
+use Rattle.x86_semantics.specs.FlagRules.{flags_after, chosen, ruled, is_set, with_status, freed, no_flags, carry_flag, adjust_flag, overflow_flag, status_flags, shift_left_flags, shift_right_flags, changes_sign, rotate_left_flags, rotate_right_flags, unless_zero}
+use Rattle.x86_semantics.specs.Shifts.{double_flags, shifted_flags, freed_if}
 use Rattle.abstract_state.specs.declared.truth.Truth.{Truth}
 use Rattle.abstract_state.specs.declared.truth.Truth.TheVariants.{No, Unknown}
 use Rattle.abstract_state.specs.declared.flags.Truths.{Truths}
 use Rattle.abstract_state.specs.Truth.{StandsFor, differ}
 use Rattle.abstract_state.specs.Flags.{FlagsStand, unknown_flags}
 use Rattle.abstract_state.proofs.Logic.{differ_stands, opposite_stands}
-use Rattle.transfer_functions.specs.Flags.{ruled_truths, known_of, by_operator, of_result, of_operands, counted, below_width, by_one, rotated}
+use Rattle.transfer_functions.specs.Flags.{ruled_truths, known_of, by_operator, of_result, of_operands, counted, below_width, by_one, rotated, sign_changed}
+use Rattle.transfer_functions.specs.Shifts.{double_truths, is_below}
 use Rattle.transfer_functions.proofs.Words.{zero_fits, eq_zero, difference_equal, difference_carry, negation_carry, negation_is}
 use Rattle.transfer_functions.proofs.Knowing.{KnownWord, Tells, number_known, known_stands, all_stand, number_tells, given_tells, operator_stands}
 
@@ -46,14 +48,21 @@ abbrev pub is_counted : FlagRule → Bool
 is_counted ShiftLeft = true
 is_counted ShiftRight = true
 is_counted ShiftRightSigned = true
+is_counted ShiftRightDouble = true
 is_counted RotateLeft = true
 is_counted RotateRight = true
 is_counted rule = false
 
+-- the rules of SHLD and SHRD
+abbrev pub is_double : FlagRule → Bool
+is_double ShiftLeft = true
+is_double ShiftRightDouble = true
+is_double rule = false
+
 module _ {D : Type 0} (d : Values D) (l : IsLawful d) (p : Places) (valid : IsValid p) where
   -- ---- each kind of flag
 
-  zero_stands : (w : Width) (r : D) (z : ℕ) → KnownWord d p w r z → StandsFor (by_operator d p.align Eq w r (d.number 0)) (z == 0)
+  pub zero_stands : (w : Width) (r : D) (z : ℕ) → KnownWord d p w r z → StandsFor (by_operator d p.align Eq w r (d.number 0)) (z == 0)
   zero_stands w r z k = as_is _ _ _ (sym (eq_zero w z k.fits)) (operator_stands d l p valid Eq w r (d.number 0) z 0 k (number_known d l p valid w 0 (zero_fits w)))
 
   -- ZF, SF and PF by a result
@@ -155,6 +164,12 @@ module _ {D : Type 0} (d : Values D) (l : IsLawful d) (p : Places) (valid : IsVa
   ruled_stand SignedProduct w a b r x y z t f choice not_shift h k known is before =
       let large = all_stand d l p valid (λ m n c. not (is_signed w (signed_of w m *ℤ signed_of w n))) _ _ No x y false (number_tells d l p valid a x h.stands) (number_tells d l p valid b y k.stands) refl in
       record { carry = large; parity = tt; adjust = tt; zero = tt; sign = tt; overflow = large; direction = before.direction }
+  ruled_stand BitTest w a b r x y z t f choice not_shift h k known is before =
+      let carry = all_stand d l p valid (λ m n c. is_set (cut w m) (n % bits_of w)) _ _ No x y false (number_tells d l p valid a x h.stands) (number_tells d l p valid b y k.stands) refl in
+      record { carry = carry; parity = tt; adjust = tt; zero = before.zero; sign = tt; overflow = tt; direction = before.direction }
+  ruled_stand BitScan w a b r x y z t f choice not_shift h k known is before =
+      let zero = as_is _ _ _ (ap (λ n. n == 0) (cut_fit w x h.fits)) (zero_stands w a x h) in
+      record { carry = tt; parity = tt; adjust = tt; zero = zero; sign = tt; overflow = tt; direction = before.direction }
   ruled_stand Status w a b r x y z t f choice not_shift h k known is before = status_stands w a b r x y z t f h.stands before
   ruled_stand rule w a b r x y z t f choice not_shift h k known is before = cc
 
@@ -281,6 +296,14 @@ module _ {D : Type 0} (d : Values D) (l : IsLawful d) (p : Places) (valid : IsVa
       (unknown_flags t.direction) t f (freed adjust_flag choice (shift_right_flags w x (y % 32) z false f)) _ (number_tells d l p valid b y k)
       before (six_unknown t f before) (λ g s. six_unknown _ g s) (λ some. ap (freed adjust_flag choice) (some_count (λ c. shift_right_flags w x c z false f) f y some))
       (shift_right_stands w a r x z (y % 32) No false t f choice h known refl before)
+  counted_stand ShiftRightDouble w a b r x y z t f choice is h k known before =
+      let P : ℕ → Type 0 = λ n. StandsFor (known_of (has_sign w) (d.number_of r)) (has_sign w n) in
+      let sign = subst P (sym (cut_fit w z known.fits)) (known_stands d l p valid (has_sign w) r z known.stands) in
+      let top = known_stands d l p valid (λ n. has_sign w (cut w n)) a x h in
+      count_stands (d.number_of b) y w choice (λ c. of_result d p.align w r (known_of (λ n. is_set (cut w n) (c - 1)) (d.number_of a)) Unknown (sign_changed w (d.number_of a) (d.number_of r)) t)
+      (unknown_flags t.direction) t f (freed adjust_flag choice (shift_right_flags w x (y % 32) z (changes_sign w x z) f)) _ (number_tells d l p valid b y k)
+      before (six_unknown t f before) (λ g s. six_unknown _ g s) (λ some. ap (freed adjust_flag choice) (some_count (λ c. shift_right_flags w x c z (changes_sign w x z) f) f y some))
+      (shift_right_stands w a r x z (y % 32) _ (changes_sign w x z) t f choice h known (differ_stands _ _ _ _ sign top) before)
   counted_stand RotateLeft w a b r x y z t f choice is h k known before =
       count_stands (d.number_of b) y w choice (λ c. rotated (known_of (λ n. is_set n 0) (d.number_of r)) (differ (known_of (has_sign w) (d.number_of r)) (known_of (λ n. is_set n 0) (d.number_of r))) t)
       (rotated Unknown Unknown t) t f (freed no_flags choice (rotate_left_flags w z f)) _ (number_tells d l p valid b y k)
@@ -292,3 +315,56 @@ module _ {D : Type 0} (d : Values D) (l : IsLawful d) (p : Places) (valid : IsVa
       before (two_unknown t f before) (λ g s. two_unknown _ g s) (λ some. ap (freed no_flags choice) (some_count (λ c. rotate_right_flags w z f) f y some))
       (rotate_right_stands w r z t f choice known before)
   counted_stand rule w a b r x y z t f choice is h k known before = cc
+
+  -- ---- double shifts
+
+  -- DF is kept
+  past_direction : (none wide one : Bool) (past : FlagSet) (choice : Choice) (f g : Flags) → g.direction ≡ f.direction
+      → (cond none f (freed_if (not wide) past choice (freed_if (not one) overflow_flag choice g))).direction ≡ f.direction
+  past_direction true wide one past choice f g e = refl
+  past_direction false true true past choice f g e = e
+  past_direction false true false past choice f g e = e
+  past_direction false false true past choice f g e = e
+  past_direction false false false past choice f g e = e
+
+  either_direction : (none : Bool) (f g : Flags) → g.direction ≡ f.direction → (cond none f g).direction ≡ f.direction
+  either_direction true f g e = refl
+  either_direction false f g e = e
+
+  pub double_direction : (rule : FlagRule) (w : Width) (x c z : ℕ) (f : Flags) (choice : Choice) → is_double rule ≡ true → (double_flags rule w x c z choice f).direction ≡ f.direction
+  unfolding ruled
+  double_direction ShiftLeft w x c z f choice is =
+      past_direction (c == 0) (nat_lt c (bits_of w)) (c == 1) status_flags choice f (flags_after ShiftLeft w x c z choice f)
+      (either_direction (c % 32 == 0) f (shift_left_flags w x (c % 32) z f) refl)
+  double_direction ShiftRightDouble w x c z f choice is =
+      past_direction (c == 0) (nat_lt c (bits_of w)) (c == 1) status_flags choice f (flags_after ShiftRightDouble w x c z choice f)
+      (either_direction (c % 32 == 0) f (shift_right_flags w x (c % 32) z (changes_sign w x z) f) refl)
+  double_direction rule w x c z f choice is = cc
+
+  double_counted : (rule : FlagRule) → is_double rule ≡ true → is_counted rule ≡ true
+  double_counted ShiftLeft is = refl
+  double_counted ShiftRightDouble is = refl
+  double_counted rule is = cc
+
+  -- by a count below the width they are those of a shift
+  below_flags : (rule : FlagRule) (w : Width) (x c z : ℕ) (f : Flags) (choice : Choice) → nat_lt c (bits_of w) ≡ true → shifted_flags rule w x c z choice f ≡ double_flags rule w x c z choice f
+  below_flags rule w x c z f choice less =
+      ap (λ b. cond (c == 0) f (freed_if (not b) carry_flag choice (freed_if (not (c == 1)) overflow_flag choice (flags_after rule w x c z choice f)))) less
+      ∙ sym (ap (λ b. cond (c == 0) f (freed_if (not b) status_flags choice (freed_if (not (c == 1)) overflow_flag choice (flags_after rule w x c z choice f)))) less)
+
+  known_below : (o : Option ℕ) (w : Width) (y : ℕ) → Tells d l p valid o y → is_below w o ≡ true → nat_lt (y % 32) (bits_of w) ≡ true
+  known_below None w y tells e = cc
+  known_below (Some n) w y tells e = ap (λ k. nat_lt (k % 32) (bits_of w)) (tells n refl) ∙ e
+
+  pub double_stand : (rule : FlagRule) (w : Width) (a b r : D) (x y z : ℕ) (t : Truths) (f : Flags) (choice : Choice) → is_double rule ≡ true
+      → d.stands a p x → d.stands b p y → KnownWord d p w r z → FlagsStand t f
+      → FlagsStand (double_truths d p.align rule w a b r t) (double_flags rule w x (y % 32) z choice f)
+  double_stand rule w a b r x y z t f choice is h k known before =
+      elim (is_below w (d.number_of b)) as (λ less. is_below w (d.number_of b) ≡ less → FlagsStand (cond less (ruled_truths d p.align rule w a b r t) (unknown_flags t.direction)) (double_flags rule w x (y % 32) z choice f)) [
+        | true ↦ λ e.
+            let same = below_flags rule w x (y % 32) z f choice (known_below (d.number_of b) w y (number_tells d l p valid b y k) e) in
+            subst (FlagsStand (ruled_truths d p.align rule w a b r t)) same (counted_stand rule w a b r x y z t f choice (double_counted rule is) h k known before)
+        | false ↦ λ e.
+            let direction = subst (StandsFor t.direction) (sym (double_direction rule w x (y % 32) z f choice is)) before.direction in
+            record { carry = tt; parity = tt; adjust = tt; zero = tt; sign = tt; overflow = tt; direction = direction }
+      ] refl

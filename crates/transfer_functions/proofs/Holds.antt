@@ -1,20 +1,19 @@
 -- Values that an expansion makes of others may be held, and written where they go.
-use Rattle.std.proofs.Common.{◌≡◌, ℕ, ◌+◌, ◌*◌, ◌<◌, ◌%◌, ◌^◌, ◌≤◌, Bool, true, false, cond, ◌&&◌, ◌||◌, ◌⊎◌, inl, inr, Option, Some, None, refl, sym, subst, arith}
-use Rattle.std.specs.Prelude.{ℤ, nat_lt, nat_le, ◌==◌, List}
-use Rattle.std.proofs.lemmas.Bool.Decides.{nat_tests}
+use Rattle.std.proofs.Common.{◌≡◌, ℕ, ◌<◌, ◌^◌, Bool, true, false, cond, ◌&&◌, ◌||◌, ◌⊎◌, inl, inr, Option, Some, None, refl, sym, subst, arith}
+use Rattle.std.specs.Prelude.{ℤ, nat_lt, List}
 use Rattle.bit_words.specs.declared.op.Op.{Op}
 use Rattle.bit_words.specs.declared.width.Width.{Width}
 use Rattle.bit_words.specs.declared.width.Width.TheVariants.{B8, B16, B32}
-use Rattle.bit_words.specs.Width.{bits_of, cut}
+use Rattle.bit_words.specs.Width.{bits_of}
 use Rattle.bit_words.specs.declared.op.Op.TheVariants.{Low8, High8, Low16}
 use Rattle.bit_words.specs.Operators.{apply_op, formula}
 use Rattle.bit_words.proofs.Laws.{apply-lt}
 use Rattle.address_regions.specs.declared.region.Region.{Region}
 use Rattle.address_regions.specs.declared.region.Region.TheVariants as regions
-use Rattle.address_regions.specs.Extents.{block_of, has_one_base}
+use Rattle.address_regions.specs.Extents.{has_one_base}
 use Rattle.domain_laws.specs.declared.reach.Reach.{Reach}
 use Rattle.domain_laws.specs.declared.reach.Reach.TheVariants as reaches
-use Rattle.domain_laws.specs.Laws.{Values, IsLawful, IsValueOf}
+use Rattle.domain_laws.specs.Laws.{Values, IsLawful}
 use Rattle.domain_laws.specs.Reached.{named}
 use Rattle.partitioned_memory.specs.declared.fact.Counted.{Counted}
 use Rattle.partitioned_memory.specs.Well.{HasCount, MayHold}
@@ -108,6 +107,18 @@ pub exchange-place : (place : Operand) (w : Width) (r : ℕ) → has_own_widths 
 unfolding has_own_widths
 exchange-place place w r e = e
 
+pub double_shift-place : (op other : Op) (rule : FlagRule) (w : Width) (to : Operand) (r : ℕ) (count : Operand) → has_own_widths (does.DoubleShift op other rule w to r count) ≡ true → has_place w to ≡ true
+unfolding has_own_widths
+double_shift-place op other rule w to r count e = both-left (has_place w to) (is_count count) e
+
+pub compare_exchange-place : (place : Operand) (w : Width) (r : ℕ) → has_own_widths (does.CompareExchange place w r) ≡ true → has_place w place ≡ true
+unfolding has_own_widths
+compare_exchange-place place w r e = e
+
+pub exchange_add-place : (place : Operand) (w : Width) (r : ℕ) → has_own_widths (does.ExchangeAdd place w r) ≡ true → has_place w place ≡ true
+unfolding has_own_widths
+exchange_add-place place w r e = e
+
 pub pop-place : (to : Operand) → has_own_widths (does.Pop to) ≡ true → has_place B32 to ≡ true
 unfolding has_own_widths
 pop-place to e = e
@@ -183,6 +194,10 @@ module _ {D : Type 0} (d : Values D) (blocks : List Counted) where
   width-within B32 B8 e = absurd (cc)
   width-within B32 B16 e = absurd (cc)
   width-within B32 B32 e = refl
+
+  -- what was read of a place of a width
+  pub place-holds : (w : Width) (o : Operand) (x : D) → has_place w o ≡ true → MayHold d blocks (width_of o) x → MayHold d blocks w x
+  place-holds w o x e h = holds-within (width_of o) w x (width-within (width_of o) w (both-right (is_place o) (is_width (width_of o) w) e)) h
 
   pub write-width : (v : Width) (to : Operand) (x : D) → is_width v (width_of to) ≡ true → MayHold d blocks v x → MayWrite d blocks to x
   write-width v to x e h = write-within v to x (width-within v (width_of to) e) h

@@ -1,29 +1,28 @@
 -- The expansion of every instruction keeps states well.
-use Rattle.std.proofs.Common.{◌≡◌, ℕ, ◌<◌, ◌^◌, true, false, List, [], refl, sym, subst, arith}
+use Rattle.std.proofs.Common.{◌≡◌, ℕ, ◌<◌, ◌^◌, true, List, [], refl}
 use Rattle.std.specs.Prelude.{⊤, All, Contains}
 use Rattle.std.proofs.lemmas.Bool.{and_parts}
 use Rattle.address_regions.specs.Places.{Places}
-use Rattle.bit_words.specs.declared.width.Width.{Width}
 use Rattle.bit_words.specs.Width.{bits_of}
 use Rattle.domain_laws.specs.Laws.{Values, IsLawful}
 use Rattle.memory_map.specs.Image.{Image}
 use Rattle.memory_map.specs.Range.{HasBytes, IsInUserSpace}
 use Rattle.partitioned_memory.specs.declared.fact.Counted.{Counted}
 use Rattle.x86_syntax.specs.declared.instr.Instr.{Instr}
-use Rattle.x86_syntax.specs.declared.instr.Operand.{Operand}
 use Rattle.x86_semantics.specs.declared.operation.Operation.{Operation}
-use Rattle.x86_semantics.specs.declared.operation.Operation.TheVariants.{Combine, Carry, Compare, Move, Convert, Lea, Exchange, Shift, MultiplyLong, Multiply, Divide, Jump, Goto, Loop, JumpIfNoCount, Call, Return, Push, Pop, Leave, Set, MoveIf, Flag, LoadStatus, StoreStatus, Element, Nothing, Stop}
+use Rattle.x86_semantics.specs.declared.operation.Operation.TheVariants.{Combine, Carry, Compare, Move, Convert, Lea, Exchange, Shift, MultiplyLong, Multiply, Divide, Jump, Goto, Loop, JumpIfNoCount, Call, Return, Push, Pop, Leave, Set, MoveIf, Flag, LoadStatus, StoreStatus, Element, Nothing, Stop, DoubleShift, TestBit, FindBit, CompareExchange, ExchangeAdd}
 use Rattle.x86_semantics.specs.Operations.{operation_of}
 use Rattle.x86_semantics.specs.Widths.{fits_width, has_own_widths, has_place, has_width, is_count, is_place, width_of}
 use Rattle.x86_semantics.proofs.Spelled.{spelled_widths}
-use Rattle.abstract_state.specs.Expanding.{Expanded, Path, starts}
+use Rattle.abstract_state.specs.Expanding.{Path, starts}
 use Rattle.abstract_state.specs.Laws.{RefiningKeepsWell}
 use Rattle.abstract_state.specs.State.{AreSmall, IsWellState, Known}
 use Rattle.abstract_state.proofs.BridgeKeeping.{store_keeps}
 use Rattle.transfer_functions.specs.Post.{expand_instr, expand_operation}
 use Rattle.transfer_functions.proofs.Keeping.{IsWellPath, KeepsWell, StoresKeep, ended_keeps, lands_keeps}
+use Rattle.transfer_functions.proofs.KeepingExchanges.{compare_exchange_keeps, exchange_add_keeps, find_bit_keeps, test_bit_keeps}
 use Rattle.transfer_functions.proofs.KeepingPaths.{call_keeps, convert_keeps, exchange_keeps, goto_keeps, jump_if_no_count_keeps, jump_keeps, lea_keeps, leave_keeps, loop_keeps, move_if_keeps, move_keeps, pop_keeps, push_keeps, return_keeps, set_keeps, string_keeps}
-use Rattle.transfer_functions.proofs.KeepingShapes.{carry_keeps, change_flag_keeps, combine_keeps, compare_keeps, divide_keeps, load_status_keeps, multiply_keeps, multiply_long_keeps, shift_keeps, store_status_keeps}
+use Rattle.transfer_functions.proofs.KeepingShapes.{carry_keeps, change_flag_keeps, combine_keeps, compare_keeps, divide_keeps, double_shift_keeps, load_status_keeps, multiply_keeps, multiply_long_keeps, shift_keeps, store_status_keeps}
 use Rattle.transfer_functions.proofs.OwnRules.{IsOwn, operations_own}
 
 -- the numbers of an operation are words of their widths
@@ -66,6 +65,13 @@ module _ {D : Type 0} (d : Values D) (l : IsLawful d) (image : Image) (blocks : 
   operation_keeps k (Shift op rule w to count) at n q keeps widths own h =
       let parts = and_parts (has_place w to) (is_count count) widths in
       shift_keeps d l image blocks bytes stores op rule w to count _ q parts.0 parts.1 h
+  operation_keeps k (DoubleShift op other rule w to r count) at n q keeps widths own h =
+      let parts = and_parts (has_place w to) (is_count count) widths in
+      double_shift_keeps d l image blocks bytes stores op other rule w to r count _ q parts.0 parts.1 h
+  operation_keeps k (TestBit change w r index) at n q keeps widths own h = test_bit_keeps d l image blocks bytes stores change w r index _ q widths h
+  operation_keeps k (FindBit op w r from) at n q keeps widths own h = find_bit_keeps d l image blocks bytes stores op w r from _ q widths h
+  operation_keeps k (CompareExchange place w r) at n q keeps widths own h = compare_exchange_keeps d l image blocks bytes stores place w r _ q widths h
+  operation_keeps k (ExchangeAdd place w r) at n q keeps widths own h = exchange_add_keeps d l image blocks bytes stores place w r _ q widths h
   operation_keeps k (MultiplyLong high rule w from) at n q keeps widths own h = multiply_long_keeps d l image blocks bytes stores high rule w from _ q widths h
   operation_keeps k (Multiply w r left right) at n q keeps widths own h =
       let parts = and_parts (has_width w left) (has_width w right) widths in

@@ -1,20 +1,19 @@
 -- Moves, jumps, calls, loops and string operations keep states well.
-use Rattle.std.proofs.Common.{◌≡◌, ℕ, ◌+◌, ◌-◌, ◌<◌, ◌%◌, ◌^◌, Bool, true, false, cond, ◌==◌, ◌&&◌, ◌||◌, List, [], ◌∷◌, ◌++◌, map, Option, Some, None, refl, sym, ◌∙◌, ap, subst, arith, inl, inr}
-use Rattle.std.specs.Prelude.{All, Contains, ℤ, pos}
+use Rattle.std.proofs.Common.{◌≡◌, ℕ, ◌-◌, ◌<◌, ◌^◌, true, false, cond, ◌==◌, ◌&&◌, ◌||◌, List, [], ◌∷◌, map, Option, Some, None, refl, sym, ◌∙◌, subst, arith, inl, inr}
+use Rattle.std.specs.Prelude.{All, Contains, ℤ}
 use Rattle.std.proofs.lemmas.Bool.{and_parts}
 use Rattle.std.proofs.lemmas.List.Elements.{Contains-append_cases}
 use Rattle.bit_words.specs.declared.width.Width.{Width}
 use Rattle.bit_words.specs.declared.width.Width.TheVariants.{B8, B16, B32}
 use Rattle.bit_words.specs.declared.op.Op.{Op}
-use Rattle.bit_words.specs.declared.op.Op.TheVariants.{Add, Eq, PutLow16, Sub}
+use Rattle.bit_words.specs.declared.op.Op.TheVariants.{Add, PutLow16, Sub}
 use Rattle.bit_words.specs.Width.{bits_of, bytes_of}
 use Rattle.bit_words.proofs.Laws.{apply-lt}
 use Rattle.domain_laws.specs.Laws.{Values, IsLawful}
-use Rattle.domain_laws.specs.Reached.{named}
 use Rattle.memory_map.specs.Image.{Image}
 use Rattle.memory_map.specs.Range.{HasBytes}
 use Rattle.partitioned_memory.specs.declared.fact.Counted.{Counted}
-use Rattle.partitioned_memory.specs.Well.{FitsWidth, HasCount, MayHold}
+use Rattle.partitioned_memory.specs.Well.{FitsWidth, MayHold}
 use Rattle.partitioned_memory.proofs.Holding.{any-holds, number-holds}
 use Rattle.x86_syntax.specs.declared.instr.Address.{Address}
 use Rattle.x86_syntax.specs.declared.instr.Cond.{Cond}
@@ -23,7 +22,6 @@ use Rattle.x86_syntax.specs.declared.instr.Operand.TheVariants.{Register, Number
 use Rattle.x86_syntax.specs.declared.instr.Seg.{Seg}
 use Rattle.x86_syntax.specs.declared.instr.Repeat.{Repeat}
 use Rattle.x86_syntax.specs.declared.instr.Repeat.TheVariants.{Once, Rep, Repe, Repne}
-use Rattle.x86_semantics.specs.declared.flag_rule.FlagRule.TheVariants.{Difference}
 use Rattle.x86_semantics.specs.declared.operation.Looping.{Looping}
 use Rattle.x86_semantics.specs.declared.operation.StringKind.{StringKind}
 use Rattle.x86_semantics.specs.declared.operation.StringKind.TheVariants.{Move, Compare, Store, Load, Scan}
@@ -42,17 +40,17 @@ use Rattle.abstract_state.specs.declared.note.Note.TheVariants as notes
 use Rattle.abstract_state.specs.Laws.{RefiningKeepsWell}
 use Rattle.abstract_state.specs.Notes.{compared_with}
 use Rattle.abstract_state.specs.Refining.{narrowed, narrowed_states, noted_value, refined, refined_by, with_noted_value}
-use Rattle.abstract_state.specs.State.{IsWellState, Known, with_parts}
+use Rattle.abstract_state.specs.State.{Known, with_parts}
 use Rattle.address_regions.specs.declared.region.Region.TheVariants.{Stack}
 use Rattle.partitioned_memory.specs.declared.area.Area.TheVariants.{In}
 use Rattle.partitioned_memory.specs.Held.{after_exact}
 use Rattle.abstract_state.specs.Truth.{either, opposite}
-use Rattle.transfer_functions.specs.Flow.{call, counting_down, goto, jump, jump_if_no_count, landing, lands_each, loop, meets_zero, negated, one_less, return, returned, states_by, states_where, targeting}
-use Rattle.transfer_functions.specs.Moves.{convert, exchange, lea, leave, move, move_if, past_word, pop, pop_into, popped, push, pushing, set, stack_pointer, word_below}
-use Rattle.transfer_functions.specs.Strings.{compared, counted, element, ends_by, moved, repeated, source_value, step_by, string}
-use Rattle.transfer_functions.specs.Values.{above, address_value, below, branched, either_way, in_segment, is_zero, offset_value, on_state, part, reading, register_value, value_of_truth, with_part, with_register, writing}
+use Rattle.transfer_functions.specs.Flow.{call, counting_down, goto, jump, jump_if_no_count, landing, lands_each, loop, meets_zero, negated, return, states_by, states_where, targeting}
+use Rattle.transfer_functions.specs.Moves.{convert, exchange, lea, leave, move, move_if, pop, popped, push, pushing, set, stack_pointer, word_below}
+use Rattle.transfer_functions.specs.Strings.{compared, counted, element, ends_by, moved, repeated, step_by, string}
+use Rattle.transfer_functions.specs.Values.{above, below, branched, either_way, is_zero, offset_value, on_state, reading, register_value, value_of_truth, writing}
 use Rattle.transfer_functions.proofs.Holds.{eval-holds, holds-within}
-use Rattle.transfer_functions.proofs.Keeping.{IsWellNext, IsWellPath, KeepsWell, StoresKeep, address_counted, lands_keeps, loading_keeps, no_pair, offset_counted, one_pair, part_holds, reading_keeps, register_holds, segment_counted, storing_keeps, with_flags_keeps, with_part_keeps, with_register_keeps, writing_keeps}
+use Rattle.transfer_functions.proofs.Keeping.{IsWellNext, IsWellPath, KeepsWell, StoresKeep, lands_keeps, loading_keeps, no_pair, offset_counted, one_pair, part_holds, reading_keeps, register_holds, storing_keeps, with_flags_keeps, with_part_keeps, with_register_keeps, writing_keeps}
 use Rattle.transfer_functions.proofs.SoundMoves.{width_back, width_within}
 use Rattle.transfer_functions.proofs.SoundArithmetic.{place_is_value}
 
@@ -112,7 +110,7 @@ module _ {D : Type 0} (d : Values D) (l : IsLawful d) (image : Image) (blocks : 
   joined_keeps : (x y : Expanded D) → K x → K y → K (joined x y)
   joined_keeps x y h k pair held = elim (Contains-append_cases x.next y.next pair held) [ inl a ↦ h pair a | inr b ↦ k pair b ]
 
-  either_keeps : (t : Truth) (x y : Expanded D) → K x → K y → K (either_way t x y)
+  pub either_keeps : (t : Truth) (x y : Expanded D) → K x → K y → K (either_way t x y)
   either_keeps Yes x y h k = h
   either_keeps No x y h k = k
   either_keeps Unknown x y h k = joined_keeps x y h k

@@ -1,7 +1,7 @@
 -- Arithmetic, shifts, products and single flags keep states well.
-use Rattle.std.proofs.Common.{◌≡◌, ℕ, ◌<◌, ◌%◌, ◌^◌, Bool, true, false, ◌==◌, ◌&&◌, List, cond, Option, Some, None, refl, sym, subst, arith}
+use Rattle.std.proofs.Common.{◌≡◌, ℕ, ◌-◌, ◌<◌, ◌%◌, ◌^◌, Bool, true, false, ◌==◌, ◌&&◌, List, cond, Option, Some, None, refl, sym, subst, arith}
 use Rattle.memory_map.specs.Range.{HasBytes}
-use Rattle.std.specs.Prelude.{All, pos, ◌+ℤ◌}
+use Rattle.std.specs.Prelude.{All, nat_lt, pos, ◌+ℤ◌}
 use Rattle.std.specs.Option.{ForSome}
 use Rattle.std.specs.Ordering.{int_eq}
 use Rattle.std.proofs.lemmas.Bool.{and_parts}
@@ -9,8 +9,8 @@ use Rattle.address_regions.specs.declared.region.Region.TheVariants.{Stack}
 use Rattle.bit_words.specs.declared.width.Width.{Width}
 use Rattle.bit_words.specs.declared.width.Width.TheVariants.{B8, B32}
 use Rattle.bit_words.specs.declared.op.Op.{Op}
-use Rattle.bit_words.specs.declared.op.Op.TheVariants.{Sub, And, Mul}
-use Rattle.bit_words.specs.Width.{cut}
+use Rattle.bit_words.specs.declared.op.Op.TheVariants.{Sub, And, Or, Mul}
+use Rattle.bit_words.specs.Width.{bits_of, cut}
 use Rattle.bit_words.proofs.Laws.{apply-lt}
 use Rattle.domain_laws.specs.declared.reach.Reach.{Reach}
 use Rattle.domain_laws.specs.declared.reach.Reach.TheVariants as reaches
@@ -34,20 +34,20 @@ use Rattle.abstract_state.specs.declared.truth.Truth.{Truth}
 use Rattle.abstract_state.specs.declared.truth.Truth.TheVariants.{Yes, No, Unknown}
 use Rattle.abstract_state.specs.declared.flags.Truths.{Truths}
 use Rattle.abstract_state.specs.Accessing.{lies_in_extent}
-use Rattle.abstract_state.specs.Expanding.{Expanded, Path, ended}
+use Rattle.abstract_state.specs.Expanding.{Expanded, Path, ended, lands}
 use Rattle.abstract_state.specs.Notes.{IsWellNote}
-use Rattle.abstract_state.specs.State.{Known}
+use Rattle.abstract_state.specs.State.{Known, with_flags}
 use Rattle.transfer_functions.specs.Arithmetic.{cancels, carry, combine, combined, compare, compared_with, flagged, is_same_register, keeps, note_of, note_with, noted, noted_place, reading_both}
 use Rattle.transfer_functions.specs.Bits.{change_flag, flags_set, has_status, load_status, status_value, store_status}
 use Rattle.transfer_functions.specs.Products.{divide, divide_by, divide_halves, divide_known, divided, exact, multiply, multiply_long, on_quotients, with_long}
-use Rattle.transfer_functions.specs.Shifts.{is_no_shift, shift, shifted, unshifted}
+use Rattle.transfer_functions.specs.Shifts.{double_shift, double_shift_by, double_shifted, double_truths, is_no_shift, joined, shift, shifted, unshifted}
 use Rattle.transfer_functions.specs.Values.{address_value, after_pair, on_state, operand_value, pair_of, reading, value_of_truth, writing}
 use Rattle.transfer_functions.proofs.Holds.{eval-holds}
 use Rattle.transfer_functions.proofs.Keeping.{IsWellPath, StoresKeep, KeepsWell, ended_keeps, lands_keeps, noted_keeps, part_holds, reading_keeps, with_flags_keeps, with_part_keeps, writing_keeps}
 use Rattle.transfer_functions.proofs.SoundArithmetic.{pairs, place_has_width, place_inside, same_width, some_note}
 use Rattle.transfer_functions.proofs.SoundBits.{status_fits}
 use Rattle.transfer_functions.proofs.SoundProducts.{AllWords, quotient_words}
-use Rattle.transfer_functions.proofs.SoundShifts.{count_is_value}
+use Rattle.transfer_functions.proofs.SoundShifts.{count_is_value, rest_fits}
 use Rattle.transfer_functions.proofs.Words.{count_fits, one_fits, word_fits, zero_fits}
 
 module _ {D : Type 0} (d : Values D) (l : IsLawful d) (image : Image) (blocks : List Counted) (bytes : All HasBytes image.segments) (stores : StoresKeep d l image blocks) where
@@ -62,7 +62,7 @@ module _ {D : Type 0} (d : Values D) (l : IsLawful d) (image : Image) (blocks : 
 
   -- ---- both operands
 
-  value_keeps : (w : Width) (o : Operand) (q : Path D) (k : D → Expanded D) → has_width w o ≡ true → W q → ((v : D) → M w v → K (k v)) → K (reading d image q o k)
+  pub value_keeps : (w : Width) (o : Operand) (q : Path D) (k : D → Expanded D) → has_width w o ≡ true → W q → ((v : D) → M w v → K (k v)) → K (reading d image q o k)
   value_keeps w o q k has h then =
       let parts = and_parts (is_value o) (is_width (width_of o) w) has in
       reading_keeps d l image blocks o q k bytes parts.0 h (λ v m. then v (subst (λ z. M z v) (same_width (width_of o) w parts.1) m))
@@ -77,15 +77,15 @@ module _ {D : Type 0} (d : Values D) (l : IsLawful d) (image : Image) (blocks : 
             (value_keeps w left q _ has h (λ v m. value_keeps w right q _ also h (λ u n. then v u m n)))
       ]
 
-  place_keeps : (w : Width) (o : Operand) (v : D) (q : Path D) (k : Path D → Expanded D) → has_place w o ≡ true → M w v → W q → ((r : Path D) → W r → K (k r)) → K (writing d image q o v k)
+  pub place_keeps : (w : Width) (o : Operand) (v : D) (q : Path D) (k : Path D → Expanded D) → has_place w o ≡ true → M w v → W q → ((r : Path D) → W r → K (k r)) → K (writing d image q o v k)
   place_keeps w o v q k place m h then =
       let parts = and_parts (is_place o) (is_width (width_of o) w) place in
       writing_keeps d l image blocks o v q k stores parts.0 (subst (λ z. M z v) (sym (same_width (width_of o) w parts.1)) m) h then
 
-  flagged_keeps : (rule : FlagRule) (w : Width) (v u value : D) (next : ℕ) (q : Path D) → W q → K (flagged d image rule w v u value next q)
+  pub flagged_keeps : (rule : FlagRule) (w : Width) (v u value : D) (next : ℕ) (q : Path D) → W q → K (flagged d image rule w v u value next q)
   flagged_keeps rule w v u value next q h = lands_keeps d l image blocks next _ (with_flags_keeps d l image blocks _ q h)
 
-  eval_holds : (op : Op) (w : Width) (a b : D) → M w a → M w b → M w (d.eval op w a b image.align)
+  pub eval_holds : (op : Op) (w : Width) (a b : D) → M w a → M w b → M w (d.eval op w a b image.align)
   eval_holds op w a b m n = eval-holds d l blocks op w w w a b image.align m n
 
   -- ---- sums, differences and logic
@@ -168,6 +168,32 @@ module _ {D : Type 0} (d : Values D) (l : IsLawful d) (image : Image) (blocks : 
         | true ↦ unshifted_keeps w to a next q place m h
         | false ↦ place_keeps w to _ q _ place (shifted_holds op w a (d.number_of v) m) h (λ r k. flagged_keeps rule w a v _ next r k)
       ]))
+
+  joined_holds : (op other : Op) (w : Width) (a b : D) (n : ℕ) → n < 2 ^ bits_of w → M w a → M w b → M w (joined d image.align op other w a b n)
+  joined_holds op other w a b n less m k =
+      eval_holds Or w _ _ (eval_holds op w a _ m (number-holds d l blocks w n less)) (eval_holds other w b _ k (number-holds d l blocks w (bits_of w - n) (rest_fits w n)))
+
+  double_holds : (op other : Op) (w : Width) (a b : D) (o : Option ℕ) → M w a → M w b → M w (double_shifted d image.align op other w a b o)
+  double_holds op other w a b None m k = any-holds d l blocks w
+  double_holds op other w a b (Some n) m k =
+      elim (nat_lt (n % 32) (bits_of w)) as (λ z. M w (cond z (joined d image.align op other w a b (n % 32)) d.any)) [
+        | true ↦ joined_holds op other w a b (n % 32) (count_fits w n) m k
+        | false ↦ any-holds d l blocks w
+      ]
+
+  double_by_keeps : (op other : Op) (rule : FlagRule) (w : Width) (to : Operand) (a b v : D) (next : ℕ) (q : Path D) → has_place w to ≡ true → M w a → M w b → W q → K (double_shift_by d image op other rule w to a b v next q)
+  double_by_keeps op other rule w to a b v next q place m k h =
+      let r = double_shifted d image.align op other w a b (d.number_of v) in
+      elim (is_no_shift (d.number_of v)) as (λ z. K (cond z (unshifted d image to a next q) (writing d image q to r (λ t. lands next (on_state (λ s. with_flags (double_truths d image.align rule w a v r s.flags) s) t))))) [
+        | true ↦ unshifted_keeps w to a next q place m h
+        | false ↦ place_keeps w to r q _ place (double_holds op other w a b (d.number_of v) m k) h (λ t own. lands_keeps d l image blocks next _ (with_flags_keeps d l image blocks _ t own))
+      ]
+
+  pub double_shift_keeps : (op other : Op) (rule : FlagRule) (w : Width) (to : Operand) (r : ℕ) (count : Operand) (next : ℕ) (q : Path D) → has_place w to ≡ true → is_count count ≡ true → W q → K (double_shift d image op other rule w to r count next q)
+  double_shift_keeps op other rule w to r count next q place byte h =
+      value_keeps w to q _ (place_has_width w to place) h (λ a m.
+      reading_keeps d l image blocks count q _ bytes (count_is_value count byte) h (λ v n.
+      double_by_keeps op other rule w to a _ v next q place m (part_holds d l image blocks w r q h) h))
 
   -- ---- products and quotients
 

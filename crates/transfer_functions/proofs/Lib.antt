@@ -12,11 +12,14 @@ pub mod SoundProducts
 pub mod SoundBits
 pub mod Paths
 pub mod SoundMoves
+pub mod SoundBitTests
+pub mod SoundExchanges
 pub mod SoundFlow
 pub mod SoundStrings
 pub mod Keeping
 pub mod KeepingShapes
 pub mod KeepingPaths
+pub mod KeepingExchanges
 pub mod OwnRules
 pub mod SoundOperations
 pub mod KeepingOperations

@@ -10,7 +10,6 @@ use Rattle.bit_words.specs.Width.{bits_of, cut}
 use Rattle.bit_words.proofs.Laws.{cut-lt}
 use Rattle.domain_laws.specs.Laws.{Values, IsLawful}
 use Rattle.memory_map.specs.Image.{Image}
-use Rattle.memory_map.specs.State.{MachineState}
 use Rattle.partitioned_memory.specs.declared.fact.Counted.{Counted}
 use Rattle.x86_syntax.specs.declared.instr.Cond.{Cond}
 use Rattle.x86_syntax.specs.declared.instr.Instr.{Instr}
@@ -20,15 +19,16 @@ use Rattle.x86_syntax.specs.declared.instr.Operand.{Operand}
 use Rattle.x86_syntax.specs.declared.instr.Operand.TheVariants.{Register, Number, Memory, Offset}
 use Rattle.x86_semantics.specs.declared.flag_rule.FlagRule.{FlagRule}
 use Rattle.x86_semantics.specs.declared.flag_rule.FlagRule.TheVariants.{Difference, Logic}
+use Rattle.x86_semantics.specs.declared.operation.BitChange.{BitChange}
 use Rattle.x86_semantics.specs.declared.operation.Looping.{Looping}
 use Rattle.x86_semantics.specs.declared.operation.Operation.{Operation}
-use Rattle.x86_semantics.specs.declared.operation.Operation.TheVariants.{Combine, Carry, Compare, Convert, Shift, MultiplyLong, Return}
-use Rattle.x86_semantics.specs.Operations.{count_jump_of, exchange_of, jump_of, lea_of, loop_of, of_none, of_one, of_three, of_two, operation_of, operation_with, product_of, return_of, unlisted}
+use Rattle.x86_semantics.specs.declared.operation.Operation.TheVariants.{Combine, Carry, Compare, Convert, Shift, DoubleShift, MultiplyLong, Return}
+use Rattle.x86_semantics.specs.Operations.{bit_scan_of, bit_test_of, compare_exchange_of, count_jump_of, double_shift_of, exchange_add_of, exchange_of, jump_of, lea_of, loop_of, of_none, of_one, of_three, of_two, operation_of, operation_with, product_of, return_of, unlisted}
 use Rattle.x86_semantics.specs.Widths.{has_own_widths}
-use Rattle.transfer_functions.proofs.FlagsSound.{is_counted}
+use Rattle.transfer_functions.proofs.FlagsSound.{is_counted, is_double}
 use Rattle.transfer_functions.proofs.SoundArithmetic.{HasRule, dec_rule, inc_rule, logic_rule, neg_rule, sub_rule, sub_with_borrow_rule, sum_rule, sum_with_carry_rule}
 use Rattle.transfer_functions.proofs.SoundProducts.{is_product}
-use Rattle.transfer_functions.proofs.SoundShifts.{is_shift}
+use Rattle.transfer_functions.proofs.SoundShifts.{IsJoining, is_shift}
 use Rattle.transfer_functions.proofs.Words.{word_fits, zero_fits}
 
 -- CMP, and TEST
@@ -43,6 +43,7 @@ module _ {D : Type 0} (d : Values D) (l : IsLawful d) (image : Image) (p : Place
   IsOwn (Compare op rule w left right) = IsComparison op rule
   IsOwn (Convert op w to from by) = by < 2 ^ bits_of w
   IsOwn (Shift op rule w to count) = (is_shift op ≡ true) × (is_counted rule ≡ true)
+  IsOwn (DoubleShift op other rule w to r count) = IsJoining op other × (is_double rule ≡ true)
   IsOwn (MultiplyLong high rule w from) = is_product rule ≡ true
   IsOwn (Return extra) = extra < 2 ^ 32
   IsOwn operation = ⊤
@@ -84,6 +85,36 @@ module _ {D : Type 0} (d : Values D) (l : IsLawful d) (image : Image) (p : Place
   exchange_own place (Number w n) = tt
   exchange_own place (Memory w b) = tt
   exchange_own place (Offset o) = tt
+
+  compare_exchange_own : (place other : Operand) → IsOwn (compare_exchange_of place other)
+  compare_exchange_own place (Register w r) = tt
+  compare_exchange_own place (Number w n) = tt
+  compare_exchange_own place (Memory w b) = tt
+  compare_exchange_own place (Offset o) = tt
+
+  exchange_add_own : (place other : Operand) → IsOwn (exchange_add_of place other)
+  exchange_add_own place (Register w r) = tt
+  exchange_add_own place (Number w n) = tt
+  exchange_add_own place (Memory w b) = tt
+  exchange_add_own place (Offset o) = tt
+
+  bit_test_own : (change : BitChange) (of index : Operand) → IsOwn (bit_test_of change of index)
+  bit_test_own change (Register w r) index = tt
+  bit_test_own change (Number w n) index = tt
+  bit_test_own change (Memory w b) index = tt
+  bit_test_own change (Offset o) index = tt
+
+  bit_scan_own : (op : Op) (to from : Operand) → IsOwn (bit_scan_of op to from)
+  bit_scan_own op (Register w r) from = tt
+  bit_scan_own op (Number w n) from = tt
+  bit_scan_own op (Memory w b) from = tt
+  bit_scan_own op (Offset o) from = tt
+
+  double_shift_own : (op other : Op) (rule : FlagRule) (to from count : Operand) → IsJoining op other → is_double rule ≡ true → IsOwn (double_shift_of op other rule to from count)
+  double_shift_own op other rule to (Register w r) count joins doubles = (joins, doubles)
+  double_shift_own op other rule to (Number w n) count joins doubles = tt
+  double_shift_own op other rule to (Memory w b) count joins doubles = tt
+  double_shift_own op other rule to (Offset o) count joins doubles = tt
 
   product_own : (to left right : Operand) → IsOwn (product_of to left right)
   product_own (Register w r) left right = tt
@@ -135,11 +166,21 @@ module _ {D : Type 0} (d : Values D) (l : IsLawful d) (image : Image) (p : Place
   two_own names.Sar w a b = (refl, refl)
   two_own names.Rol w a b = (refl, refl)
   two_own names.Ror w a b = (refl, refl)
+  two_own names.Bt w a b = bit_test_own _ a b
+  two_own names.Bts w a b = bit_test_own _ a b
+  two_own names.Btr w a b = bit_test_own _ a b
+  two_own names.Btc w a b = bit_test_own _ a b
+  two_own names.Bsf w a b = bit_scan_own _ a b
+  two_own names.Bsr w a b = bit_scan_own _ a b
+  two_own names.Cmpxchg w a b = compare_exchange_own a b
+  two_own names.Xadd w a b = exchange_add_own a b
   two_own names.Imul w a b = product_own a a b
   two_own name w a b = tt
 
   three_own : (name : Mnemonic) (w : Width) (a b c : Operand) → IsOwn (of_three name w a b c)
   three_own names.Imul w a b c = product_own a b c
+  three_own names.Shld w a b c = double_shift_own _ _ _ a b c (inl (refl, refl)) refl
+  three_own names.Shrd w a b c = double_shift_own _ _ _ a b c (inr (refl, refl)) refl
   three_own name w a b c = tt
 
   with_own : (name : Mnemonic) (i : Instr) (operands : List Operand) → IsOwn (operation_with name i operands)

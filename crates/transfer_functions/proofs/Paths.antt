@@ -1,5 +1,5 @@
 -- Where paths go: landings, one way or another, and the endings of several paths together.
-use Rattle.std.proofs.Common.{◌≡◌, ℕ, ◌<◌, ◌^◌, Bool, true, false, cond, List, [], ◌∷◌, ◌++◌, fold, map, Option, Some, None, refl, sym, ◌∙◌, ap, subst}
+use Rattle.std.proofs.Common.{◌≡◌, ℕ, ◌<◌, ◌^◌, Bool, true, false, cond, List, [], ◌∷◌, ◌++◌, fold, Option, Some, None, refl, subst}
 use Rattle.std.specs.Prelude.{Contains}
 use Rattle.std.specs.declared.cmp.Ordering.{Ordering}
 use Rattle.std.specs.declared.cmp.Ordering.TheVariants.{Less, Equal, Greater}
@@ -8,11 +8,10 @@ use Rattle.bit_words.specs.declared.width.Width.TheVariants.{B32}
 use Rattle.address_regions.specs.Places.{Places}
 use Rattle.domain_laws.specs.Laws.{Values, IsLawful}
 use Rattle.memory_map.specs.Image.{Image}
-use Rattle.memory_map.specs.State.{MachineState, memory}
+use Rattle.memory_map.specs.State.{MachineState}
 use Rattle.partitioned_memory.specs.declared.fact.Counted.{Counted}
 use Rattle.x86_semantics.specs.Operands.{Ended, Next, Faulted, at_address}
 use Rattle.flow_log.specs.Ordered.{by_order, insert_once, ordered_set}
-use Rattle.flow_log.specs.declared.cause.Cause.{Cause}
 use Rattle.flow_log.proofs.Members.{Contains-map}
 use Rattle.abstract_state.specs.declared.truth.Truth.{Truth}
 use Rattle.abstract_state.specs.declared.truth.Truth.TheVariants.{Yes, No, Unknown}
@@ -23,7 +22,6 @@ use Rattle.abstract_state.specs.Expanding.{Expanded, Path, cause_cmp, joined, la
 use Rattle.abstract_state.specs.State.{IsWellState, Known}
 use Rattle.abstract_state.specs.Truth.{StandsFor}
 use Rattle.abstract_state.proofs.BridgeFits.{fits_kept}
-use Rattle.abstract_state.proofs.Bridge.{IsFound}
 use Rattle.transfer_functions.specs.Flow.{landing, lands_each}
 use Rattle.transfer_functions.specs.Values.{branched, either_way}
 use Rattle.transfer_functions.proofs.Steps.{S, H, E, lands_ends}

@@ -1,16 +1,14 @@
 -- Jumps, calls and loops: their expansion stands for what they do.
-use Rattle.std.proofs.Common.{◌≡◌, ℕ, ◌+◌, ◌-◌, ◌<◌, ◌≤◌, ◌%◌, ◌/◌, ◌^◌, Bool, true, false, not, cond, ◌==◌, ◌&&◌, ◌||◌, List, [], ◌∷◌, map, Option, Some, None, refl, sym, ◌∙◌, ap, subst, arith, inl, inr}
-use Rattle.std.specs.Prelude.{All, Contains, ℤ, slice_get, unwrap_or}
+use Rattle.std.proofs.Common.{◌≡◌, ℕ, ◌+◌, ◌-◌, ◌<◌, ◌%◌, ◌/◌, ◌^◌, Bool, true, false, not, cond, ◌==◌, ◌&&◌, ◌||◌, List, [], Option, Some, refl, sym, ◌∙◌, ap, subst, arith}
+use Rattle.std.specs.Prelude.{ℤ, slice_get, unwrap_or}
 use Rattle.std.proofs.Math.Bool.{xor}
-use Rattle.std.specs.Int.{cast_unsigned, w32}
-use Rattle.std.proofs.lemmas.Bool.{both_ways, cases_Bool, eqb-true, ne_eqb, eq-eqb, false_from_ne_true}
+use Rattle.std.proofs.lemmas.Bool.{both_ways, eqb-true, ne_eqb, eq-eqb}
 use Rattle.address_regions.specs.Places.{Places}
 use Rattle.bit_words.specs.declared.width.Width.TheVariants.{B32}
 use Rattle.bit_words.specs.declared.op.Op.TheVariants.{Eq}
-use Rattle.bit_words.specs.Operators.{apply_op}
 use Rattle.domain_laws.specs.Laws.{Values, IsLawful}
 use Rattle.memory_map.specs.Image.{Image}
-use Rattle.memory_map.specs.State.{Flags, MachineState, memory}
+use Rattle.memory_map.specs.State.{Flags, MachineState}
 use Rattle.partitioned_memory.specs.declared.fact.Counted.{Counted}
 use Rattle.x86_syntax.specs.declared.instr.Cond.{Cond}
 use Rattle.x86_syntax.specs.declared.instr.Operand.{Operand}
@@ -19,31 +17,26 @@ use Rattle.x86_semantics.specs.Condition.{is_met, tests}
 use Rattle.x86_semantics.specs.declared.operation.Looping.{Looping}
 use Rattle.x86_semantics.specs.declared.operation.Looping.TheVariants.{Counted as CountedLoop, Equal, NotEqual}
 use Rattle.x86_semantics.specs.Flow.{call as call_of, counting_down as counting_down_of, goto as goto_of, jump as jump_of, jump_if_no_count as jump_if_no_count_of, loop as loop_of, meets_zero as meets_zero_of, return as return_of, targeting as targeting_of}
-use Rattle.x86_semantics.specs.Moves.{above as above_of, below as below_of}
-use Rattle.x86_semantics.specs.Operands.{Ended, Next, Faulted, at_address, branch_target, next_address, reading as reading_of}
-use Rattle.x86_semantics.specs.Registers.{ECX, ESP, register as register_of, with_register as with_register_of}
+use Rattle.x86_semantics.specs.Operands.{Ended, Next, at_address, branch_target, next_address, reading as reading_of}
+use Rattle.x86_semantics.specs.Registers.{ECX, ESP}
 use Rattle.x86_semantics.specs.Widths.{has_width, is_target}
-use Rattle.flow_log.proofs.Members.{Contains-here, Contains-map}
-use Rattle.abstract_state.specs.declared.truth.Truth.{Truth}
+use Rattle.flow_log.proofs.Members.{Contains-here}
 use Rattle.abstract_state.specs.declared.truth.Truth.TheVariants.{Yes, No, Unknown}
 use Rattle.abstract_state.specs.declared.flags.Truths.{Truths}
-use Rattle.abstract_state.specs.Describes.{Describes}
-use Rattle.abstract_state.specs.Expanding.{Expanded, Path, lands}
+use Rattle.abstract_state.specs.Expanding.{Expanded, Path}
 use Rattle.abstract_state.specs.Flags.{FlagsStand, truth_met}
 use Rattle.abstract_state.specs.Laws.{RefiningIsSound, RefiningKeepsWell}
-use Rattle.abstract_state.specs.Refining.{refined}
-use Rattle.abstract_state.specs.State.{IsWellState, Known}
-use Rattle.abstract_state.specs.Truth.{StandsFor, either, opposite, truth_of_number}
+use Rattle.abstract_state.specs.Truth.{StandsFor, either, opposite}
 use Rattle.abstract_state.proofs.Logic.{either_stands, met_stands, opposite_stands}
-use Rattle.abstract_state.proofs.Bridge.{IsFound, loading_ends, number_known}
-use Rattle.transfer_functions.specs.Flow.{call, counting_down, goto, jump, jump_if_no_count, landing, lands_each, loop, meets_zero, negated, one_less, return, returned, states_by, states_where, targeting}
-use Rattle.transfer_functions.specs.Moves.{pushing, stack_pointer}
+use Rattle.abstract_state.proofs.Bridge.{loading_ends, number_known}
+use Rattle.transfer_functions.specs.Flow.{call, counting_down, goto, jump, jump_if_no_count, landing, lands_each, loop, meets_zero, negated, return, states_by, states_where, targeting}
+use Rattle.transfer_functions.specs.Moves.{pushing}
 use Rattle.x86_semantics.specs.Moves.{pushing as pushing_of}
-use Rattle.transfer_functions.specs.Values.{above, branched, is_zero, on_state, reading, register_value}
+use Rattle.transfer_functions.specs.Values.{branched, is_zero, reading}
 use Rattle.transfer_functions.proofs.Knowing.{number_stands}
 use Rattle.transfer_functions.proofs.Paths.{IsAmong, branched_ends, joined_first, joined_second, landing_at, landing_ends, lands_each_ends}
 use Rattle.transfer_functions.proofs.SoundMoves.{above_stands, below_stands, pushing_ends, reading_width}
-use Rattle.transfer_functions.proofs.Steps.{S, H, E, eval_stands, lands_ends, register_stands, with_register_holds}
+use Rattle.transfer_functions.proofs.Steps.{S, H, E, eval_stands, register_stands, with_register_holds}
 use Rattle.transfer_functions.proofs.Words.{eq_zero}
 
 -- ---- the condition that holds where another does not

@@ -1,14 +1,14 @@
 -- Moves, exchanges and the stack: their expansion stands for what they do.
-use Rattle.std.proofs.Common.{◌≡◌, ℕ, ◌+◌, ◌<◌, ◌≤◌, ◌%◌, ◌^◌, Bool, true, false, cond, ◌==◌, ◌&&◌, ◌||◌, List, Option, Some, None, refl, sym, ◌∙◌, ap, subst, arith, inl, inr}
-use Rattle.std.specs.Prelude.{All, nat_le, zero, suc, ◌/◌}
-use Rattle.std.proofs.lemmas.Bool.{and_parts, cases_Bool, or_cases}
+use Rattle.std.proofs.Common.{◌≡◌, ℕ, ◌<◌, ◌%◌, ◌^◌, Bool, true, false, cond, ◌&&◌, ◌||◌, List, Some, None, refl, sym, ◌∙◌, ap, subst, arith}
+use Rattle.std.specs.Prelude.{zero, suc, ◌/◌}
+use Rattle.std.proofs.lemmas.Bool.{and_parts}
 use Rattle.address_regions.specs.Places.{Places}
 use Rattle.bit_words.specs.declared.width.Width.{Width}
 use Rattle.bit_words.specs.declared.width.Width.TheVariants.{B8, B16, B32}
 use Rattle.bit_words.specs.declared.op.Op.{Op}
 use Rattle.bit_words.specs.declared.op.Op.TheVariants.{Add, PutLow16, Sub}
 use Rattle.bit_words.specs.Width.{bits_of, bytes_of}
-use Rattle.bit_words.specs.Operators.{apply_op, one_if}
+use Rattle.bit_words.specs.Operators.{one_if}
 use Rattle.domain_laws.specs.Laws.{Values, IsLawful}
 use Rattle.memory_map.specs.Image.{Image}
 use Rattle.memory_map.specs.Registers as regs
@@ -22,8 +22,8 @@ use Rattle.x86_syntax.specs.declared.instr.Operand.TheVariants.{Register, Number
 use Rattle.x86_semantics.specs.Condition.{is_met}
 use Rattle.x86_semantics.specs.Memory.{may_write_all, next_byte, stored, with_byte, with_number}
 use Rattle.x86_semantics.specs.Moves.{above as above_of, below as below_of, convert as convert_of, exchange as exchange_of, lea as lea_of, leave as leave_of, move as move_of, move_if as move_if_of, pop as pop_of, pop_into as pop_into_of, popped as popped_of, push as push_of, pushing as pushing_of, set as set_of}
-use Rattle.x86_semantics.specs.Operands.{Ended, Next, Faulted, address_of, at_address, offset_in_segment, reading as reading_of, writing as writing_of, on_stored, storing as storing_of}
-use Rattle.x86_semantics.specs.Registers.{ESP, EBP, part as part_of, with_part as with_part_of, register as register_of, with_register as with_register_of}
+use Rattle.x86_semantics.specs.Operands.{Ended, Next, address_of, at_address, reading as reading_of, writing as writing_of, on_stored, storing as storing_of}
+use Rattle.x86_semantics.specs.Registers.{ESP, EBP, register as register_of, with_register as with_register_of}
 use Rattle.x86_semantics.specs.Widths.{has_place, has_width, fits_width, is_place, is_register, is_value, is_width, is_within, width_of}
 use Rattle.abstract_state.specs.declared.truth.Truth.{Truth}
 use Rattle.abstract_state.specs.declared.truth.Truth.TheVariants.{Yes, No, Unknown}
@@ -32,8 +32,8 @@ use Rattle.abstract_state.specs.Flags.{truth_met}
 use Rattle.abstract_state.specs.Truth.{StandsFor}
 use Rattle.abstract_state.proofs.Logic.{met_stands}
 use Rattle.abstract_state.proofs.Bridge.{any_known, number_known, loading_ends, storing_ends}
-use Rattle.transfer_functions.specs.Moves.{convert, exchange, lea, leave, move, move_if, past_word, pop, pop_into, popped, push, pushing, set, stack_pointer, word_below}
-use Rattle.transfer_functions.specs.Values.{above, address_value, below, offset_value, on_state, part, reading, register_value, value_of_truth, with_part, with_register, writing}
+use Rattle.transfer_functions.specs.Moves.{convert, exchange, lea, leave, move, move_if, pop, pop_into, popped, push, pushing, set, stack_pointer}
+use Rattle.transfer_functions.specs.Values.{above, below, on_state, reading, value_of_truth, writing}
 use Rattle.transfer_functions.proofs.Paths.{either_ends}
 use Rattle.transfer_functions.proofs.SoundArithmetic.{place_is_value, same_width}
 use Rattle.transfer_functions.proofs.Steps.{S, H, E, eval_stands, lands_ends, offset_stands, part_stands, reading_ends, register_stands, with_part_holds, with_register_holds, writing_ends}

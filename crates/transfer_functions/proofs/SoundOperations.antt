@@ -1,6 +1,6 @@
 -- The expansion of every instruction stands for what it does.
 use Rattle.std.proofs.Common.{◌≡◌, ℕ, ◌<◌, ◌^◌, true, List, [], refl, sym, subst, arith, inl, inr}
-use Rattle.std.specs.Prelude.{All, Ok}
+use Rattle.std.specs.Prelude.{Ok}
 use Rattle.std.proofs.lemmas.Bool.{and_parts}
 use Rattle.address_regions.specs.Places.{Places}
 use Rattle.bit_words.specs.declared.op.Op.{Op}
@@ -15,7 +15,7 @@ use Rattle.x86_syntax.specs.declared.instr.Instr.{Instr}
 use Rattle.x86_syntax.specs.declared.instr.Operand.{Operand}
 use Rattle.x86_semantics.specs.declared.flag_rule.FlagRule.{FlagRule}
 use Rattle.x86_semantics.specs.declared.operation.Operation.{Operation}
-use Rattle.x86_semantics.specs.declared.operation.Operation.TheVariants.{Combine, Carry, Compare, Move, Convert, Lea, Exchange, Shift, MultiplyLong, Multiply, Divide, Jump, Goto, Loop, JumpIfNoCount, Call, Return, Push, Pop, Leave, Set, MoveIf, Flag, LoadStatus, StoreStatus, Element, Nothing, Stop}
+use Rattle.x86_semantics.specs.declared.operation.Operation.TheVariants.{Combine, Carry, Compare, Move, Convert, Lea, Exchange, Shift, MultiplyLong, Multiply, Divide, Jump, Goto, Loop, JumpIfNoCount, Call, Return, Push, Pop, Leave, Set, MoveIf, Flag, LoadStatus, StoreStatus, Element, Nothing, Stop, DoubleShift, TestBit, FindBit, CompareExchange, ExchangeAdd}
 use Rattle.x86_semantics.specs.Arithmetic.{compare as compare_of}
 use Rattle.x86_semantics.specs.Does.{does, done, result_of}
 use Rattle.x86_semantics.specs.Operands.{Ended, Next, Faulted}
@@ -31,11 +31,13 @@ use Rattle.transfer_functions.specs.Arithmetic.{compare}
 use Rattle.transfer_functions.specs.Post.{expand_instr, expand_operation}
 use Rattle.transfer_functions.proofs.OwnRules.{IsComparison, IsOwn, operations_own}
 use Rattle.transfer_functions.proofs.SoundArithmetic.{carry_ends, combine_ends, compare_ends, test_ends}
+use Rattle.transfer_functions.proofs.SoundBitTests.{find_bit_ends, test_bit_ends}
 use Rattle.transfer_functions.proofs.SoundBits.{change_flag_ends, load_status_ends, store_status_ends}
+use Rattle.transfer_functions.proofs.SoundExchanges.{compare_exchange_ends, exchange_add_ends}
 use Rattle.transfer_functions.proofs.SoundFlow.{call_ends, goto_ends, jump_ends, jump_if_no_count_ends, loop_ends, return_ends}
 use Rattle.transfer_functions.proofs.SoundMoves.{convert_ends, exchange_ends, lea_ends, leave_ends, move_ends, move_if_ends, pop_ends, push_ends, set_ends}
 use Rattle.transfer_functions.proofs.SoundProducts.{divide_ends, multiply_ends, multiply_long_ends}
-use Rattle.transfer_functions.proofs.SoundShifts.{shift_ends}
+use Rattle.transfer_functions.proofs.SoundShifts.{double_shift_ends, shift_ends}
 use Rattle.transfer_functions.proofs.SoundStrings.{string_ends}
 use Rattle.transfer_functions.proofs.Steps.{E, H, lands_ends}
 
@@ -77,6 +79,13 @@ module _ {D : Type 0} (d : Values D) (l : IsLawful d) (image : Image) (p : Place
   operation_ends k (Shift op rule w to count) n choice q m sound keeps widths own h =
       let parts = and_parts (has_place w to) (is_count count) widths in
       shift_ends d l image p blocks op rule w to count _ choice q m (omega arith) own.0 own.1 parts.0 parts.1 h
+  operation_ends k (DoubleShift op other rule w to r count) n choice q m sound keeps widths own h =
+      let parts = and_parts (has_place w to) (is_count count) widths in
+      double_shift_ends d l image p blocks op other rule w to r count _ choice q m (omega arith) own.0 own.1 parts.0 parts.1 h
+  operation_ends k (TestBit change w r index) n choice q m sound keeps widths own h = test_bit_ends d l image p blocks change w r index _ choice q m (omega arith) widths h
+  operation_ends k (FindBit op w r from) n choice q m sound keeps widths own h = find_bit_ends d l image p blocks op w r from _ choice q m (omega arith) widths h
+  operation_ends k (CompareExchange place w r) n choice q m sound keeps widths own h = compare_exchange_ends d l image p blocks place w r _ choice q m (omega arith) widths h
+  operation_ends k (ExchangeAdd place w r) n choice q m sound keeps widths own h = exchange_add_ends d l image p blocks place w r _ choice q m (omega arith) widths h
   operation_ends k (MultiplyLong high rule w from) n choice q m sound keeps widths own h = multiply_long_ends d l image p blocks high rule w from _ choice q m (omega arith) own widths h
   operation_ends k (Multiply w r left right) n choice q m sound keeps widths own h =
       let parts = and_parts (has_width w left) (has_width w right) widths in

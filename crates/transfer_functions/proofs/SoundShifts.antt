@@ -1,15 +1,17 @@
 -- Shifts and rotations: their expansion stands for what they do.
-use Rattle.std.proofs.Common.{◌≡◌, ℕ, ◌-◌, ◌<◌, ◌/◌, ◌%◌, ◌^◌, Bool, true, false, ◌==◌, cond, List, Option, Some, None, refl, sym, ◌∙◌, ap, subst, arith}
-use Rattle.std.specs.Prelude.{All, nat_lt, if◌then◌else◌, ℤ, pos, negsuc}
+use Rattle.std.proofs.Common.{◌≡◌, ℕ, ◌-◌, ◌<◌, ◌/◌, ◌%◌, ◌^◌, Bool, true, false, ◌==◌, cond, List, Option, Some, None, refl, sym, ◌∙◌, ap, subst, arith, inl, inr}
+use Rattle.std.specs.Prelude.{nat_lt, if◌then◌else◌, ℤ, pos, negsuc}
+use Rattle.std.specs.Prelude.{◌⊎◌}
+use Rattle.std.specs.Int.Bits.{or_zero_r}
 use Rattle.std.proofs.lemmas.Bool.{and_parts, eqb-true}
 use Rattle.address_regions.specs.Places.{Places}
 use Rattle.bit_words.specs.declared.width.Width.{Width}
 use Rattle.bit_words.specs.declared.width.Width.TheVariants.{B8, B16, B32}
 use Rattle.bit_words.specs.declared.op.Op.{Op}
-use Rattle.bit_words.specs.declared.op.Op.TheVariants.{Shl, Shr, Sar, Rol, Ror, Low8, High8, PutLow8, PutHigh8}
+use Rattle.bit_words.specs.declared.op.Op.TheVariants.{Or, Shl, Shr, Sar, Rol, Ror, Low8, High8, PutLow8, PutHigh8}
 use Rattle.bit_words.specs.Width.{bits_of, cut, signed_of, word_of}
 use Rattle.bit_words.specs.Operators.{apply_op, formula, shifted_down}
-use Rattle.bit_words.proofs.Laws.{apply-lt, cut-cut, cut_fit, put_low8-low8, put_high8-high8, put_low16-low16}
+use Rattle.bit_words.proofs.Laws.{apply-lt, cut-cut, cut-lt, cut_fit, put_low8-low8, put_high8-high8, put_low16-low16}
 use Rattle.bit_words.proofs.SignedLaws.{word_of-signed_of}
 use Rattle.domain_laws.specs.Laws.{Values, IsLawful}
 use Rattle.memory_map.specs.declared.choice.Choice.{Choice}
@@ -23,17 +25,18 @@ use Rattle.x86_syntax.specs.declared.instr.Operand.TheVariants.{Register, Number
 use Rattle.x86_semantics.specs.declared.flag_rule.FlagRule.{FlagRule}
 use Rattle.x86_semantics.specs.Operands.{Ended, Next, at_address, with_flags as with_flags_of, writing as writing_of}
 use Rattle.x86_semantics.specs.Registers.{byte_part, put_byte_part, part as part_of, with_part as with_part_of, register as register_of, with_register as with_register_of}
-use Rattle.x86_semantics.specs.Shifts.{shift as shift_of, shift_by as shift_by_of, shifted_flags}
+use Rattle.x86_semantics.specs.Shifts.{double_flags, double_result, double_shift as double_shift_of, double_shift_by as double_shift_by_of, joined as joined_of, shift as shift_of, shift_by as shift_by_of, shifted_flags}
 use Rattle.x86_semantics.specs.Widths.{has_place, is_count, is_place, is_value, is_width, width_of}
 use Rattle.abstract_state.specs.Expanding.{Expanded, Path, lands}
 use Rattle.abstract_state.specs.Flags.{FlagsStand}
+use Rattle.abstract_state.specs.State.{with_flags}
 use Rattle.abstract_state.proofs.Bridge.{any_known, number_known}
 use Rattle.transfer_functions.specs.Arithmetic.{flagged}
 use Rattle.transfer_functions.specs.Flags.{ruled_truths}
-use Rattle.transfer_functions.specs.Shifts.{is_no_shift, shift, shift_by, shifted, unshifted}
-use Rattle.transfer_functions.specs.Values.{writing}
-use Rattle.transfer_functions.proofs.FlagsSound.{counted_stand, is_counted}
-use Rattle.transfer_functions.proofs.Steps.{S, H, E, IsRead, eval_stands, lands_ends, reading_ends, register_stands, with_flags_holds, writing_ends}
+use Rattle.transfer_functions.specs.Shifts.{double_shift, double_shift_by, double_shifted, double_truths, is_no_shift, joined, shift, shift_by, shifted, unshifted}
+use Rattle.transfer_functions.specs.Values.{on_state, writing}
+use Rattle.transfer_functions.proofs.FlagsSound.{counted_stand, double_stand, is_counted, is_double}
+use Rattle.transfer_functions.proofs.Steps.{S, H, E, IsRead, eval_stands, lands_ends, part_stands, reading_ends, register_stands, with_flags_holds, writing_ends}
 use Rattle.transfer_functions.proofs.SoundArithmetic.{place_is_value, same_width}
 use Rattle.transfer_functions.proofs.Words.{count_fits}
 
@@ -76,6 +79,53 @@ unmoved Ror B16 x e less = omega arith
 unmoved Ror B32 x e less = omega arith
 unmoved op w x e less = cc
 
+-- the operators of SHLD and SHRD
+abbrev pub IsJoining : Op → Op → Type 0
+IsJoining op other = ((op ≡ Shl) × (other ≡ Shr)) ⊎ ((op ≡ Shr) × (other ≡ Shl))
+
+-- by the width nothing is left
+gone_right : (w : Width) (y : ℕ) → apply_op Shr w y (bits_of w - 0) ≡ 0
+unfolding apply_op formula
+gone_right B8 y = omega arith
+gone_right B16 y = omega arith
+gone_right B32 y = omega arith
+
+gone_left : (w : Width) (y : ℕ) → apply_op Shl w y (bits_of w - 0) ≡ 0
+unfolding apply_op formula
+gone_left B8 y = omega arith
+gone_left B16 y = omega arith
+gone_left B32 y = omega arith
+
+or_none : (w : Width) (x : ℕ) → x < 2 ^ bits_of w → apply_op Or w x 0 ≡ x
+unfolding apply_op formula
+or_none B8 x less = or_zero_r (cut B8 x) ∙ cut_fit B8 x less
+or_none B16 x less = or_zero_r (cut B16 x) ∙ cut_fit B16 x less
+or_none B32 x less = or_zero_r (cut B32 x) ∙ cut_fit B32 x less
+
+none_joined : (op other : Op) (w : Width) (x y : ℕ) → IsJoining op other → x < 2 ^ bits_of w → joined_of op other w x y 0 ≡ x
+none_joined op other w x y own less = elim own [
+  | inl e ↦
+      ap (λ o. joined_of o other w x y 0) e.0 ∙ ap (λ o. joined_of Shl o w x y 0) e.1
+      ∙ ap (λ k. apply_op Or w (apply_op Shl w x 0) k) (gone_right w y) ∙ ap (λ k. apply_op Or w k 0) (unmoved Shl w x refl less) ∙ or_none w x less
+  | inr e ↦
+      ap (λ o. joined_of o other w x y 0) e.0 ∙ ap (λ o. joined_of Shr o w x y 0) e.1
+      ∙ ap (λ k. apply_op Or w (apply_op Shr w x 0) k) (gone_left w y) ∙ ap (λ k. apply_op Or w k 0) (unmoved Shr w x refl less) ∙ or_none w x less
+]
+
+some_width : (w : Width) → nat_lt 0 (bits_of w) ≡ true
+some_width B8 = refl
+some_width B16 = refl
+some_width B32 = refl
+
+-- SHLD and SHRD by 0 give their operand
+none_doubled : (op other : Op) (w : Width) (x y : ℕ) (choice : Choice) → IsJoining op other → x < 2 ^ bits_of w → double_result op other w x y 0 choice ≡ x
+none_doubled op other w x y choice own less = ap (λ b. cond b (joined_of op other w x y 0) (cut w choice.eax)) (some_width w) ∙ none_joined op other w x y own less
+
+pub rest_fits : (w : Width) (n : ℕ) → bits_of w - n < 2 ^ bits_of w
+rest_fits B8 n = omega arith
+rest_fits B16 n = omega arith
+rest_fits B32 n = omega arith
+
 -- ---- a register that is written with what it has
 
 itself : {V : Type 0} (g : Regs V) (r k : ℕ) (v : V) → register g k ≡ v → cond (r == k) (register g r) v ≡ v
@@ -109,7 +159,7 @@ byte_itself r a less =
       | false ↦ put_high8-high8 a ∙ cut_fit B32 a less
     ]
 
-part_itself : (w : Width) (r : ℕ) (m : MachineState) → ((k : ℕ) → register_of k m < 2 ^ 32) → with_part_of w r (part_of w r m) m ≡ m
+pub part_itself : (w : Width) (r : ℕ) (m : MachineState) → ((k : ℕ) → register_of k m < 2 ^ 32) → with_part_of w r (part_of w r m) m ≡ m
 part_itself B8 r m fits = written_itself m (r % 4) _ (byte_itself r (register_of (r % 4) m) (fits (r % 4)))
 part_itself B16 r m fits = written_itself m r _ (put_low16-low16 (register_of r m) ∙ cut_fit B32 (register_of r m) (fits r))
 part_itself B32 r m fits = written_itself m r _ refl
@@ -204,3 +254,70 @@ module _ {D : Type 0} (d : Values D) (l : IsLawful d) (image : Image) (p : Place
       reading_ends d l image p blocks count q m _ _ (count_is_value count byte) h (λ v y t also.
       shift_by_ends op rule w to a v x y next choice q m less shifts counts place
       (subst (λ z. S d l image p blocks z a x) (same_width (width_of to) w parts.1) s) read (subst (λ z. S d l image p blocks z v y) (count_width count byte) t) h))
+
+  -- ---- SHLD and SHRD
+
+  joined_stands : (op other : Op) (w : Width) (a b : D) (x y n : ℕ) (q : Path D) (m : MachineState) → n < 2 ^ bits_of w → S d l image p blocks w a x → S d l image p blocks w b y → H d l image p blocks q m
+      → S d l image p blocks w (joined d image.align op other w a b n) (joined_of op other w x y n)
+  joined_stands op other w a b x y n q m less s t h =
+      let rest = bits_of w - n in
+      let moved = eval_stands d l image p blocks op w a (d.number n) x n q m h s (number_known d l image p blocks w n q m h less) in
+      let behind = eval_stands d l image p blocks other w b (d.number rest) y rest q m h t (number_known d l image p blocks w rest q m h (rest_fits w n)) in
+      eval_stands d l image p blocks Or w _ _ _ _ q m h moved behind
+
+  result_fits : (op other : Op) (w : Width) (x y c : ℕ) (choice : Choice) (below : Bool) → cond below (joined_of op other w x y c) (cut w choice.eax) < 2 ^ bits_of w
+  result_fits op other w x y c choice true = apply-lt Or w _ _
+  result_fits op other w x y c choice false = cut-lt w choice.eax
+
+  double_stands : (op other : Op) (w : Width) (a b : D) (x y : ℕ) (o : Option ℕ) (v : ℕ) (choice : Choice) (q : Path D) (m : MachineState) → ((n : ℕ) → o ≡ Some n → v ≡ n)
+      → S d l image p blocks w a x → S d l image p blocks w b y → H d l image p blocks q m
+      → S d l image p blocks w (double_shifted d image.align op other w a b o) (double_result op other w x y (v % 32) choice)
+  double_stands op other w a b x y None v choice q m tells s t h = any_known d l image p blocks w _ q m h (result_fits op other w x y (v % 32) choice (nat_lt (v % 32) (bits_of w)))
+  double_stands op other w a b x y (Some n) v choice q m tells s t h =
+      let P : ℕ → Type 0 = λ k. S d l image p blocks w (double_shifted d image.align op other w a b (Some n)) (double_result op other w x y (k % 32) choice) in
+      subst P (sym (tells n refl))
+      (elim (nat_lt (n % 32) (bits_of w)) as (λ z. S d l image p blocks w (cond z (joined d image.align op other w a b (n % 32)) d.any) (cond z (joined_of op other w x y (n % 32)) (cut w choice.eax))) [
+        | true ↦ joined_stands op other w a b x y (n % 32) q m (count_fits w n) s t h
+        | false ↦ any_known d l image p blocks w (cut w choice.eax) q m h (cut-lt w choice.eax)
+      ])
+
+  double_flags_stand : (rule : FlagRule) (w : Width) (a b r : D) (x y z : ℕ) (q : Path D) (m : MachineState) (choice : Choice) → is_double rule ≡ true
+      → S d l image p blocks w a x → S d l image p blocks B8 b y → S d l image p blocks w r z → H d l image p blocks q m
+      → FlagsStand (double_truths d image.align rule w a b r q.state.flags) (double_flags rule w x (y % 32) z choice m.flags)
+  double_flags_stand rule w a b r x y z q m choice is s t value h =
+      let fits = h.describes.fits in
+      let P : ℕ → Type 0 = λ k. FlagsStand (double_truths d k rule w a b r q.state.flags) (double_flags rule w x (y % 32) z choice m.flags) in
+      subst P fits.align (double_stand d l p fits.valid rule w a b r x y z q.state.flags m.flags choice is s.stands t.stands (record { stands = value.stands; fits = value.fits }) h.describes.flags)
+
+  double_by_ends : (op other : Op) (rule : FlagRule) (w : Width) (to : Operand) (a b v : D) (x z y next : ℕ) (choice : Choice) (q : Path D) (m : MachineState) → next < 2 ^ 32
+      → IsJoining op other → is_double rule ≡ true → has_place w to ≡ true → S d l image p blocks w a x → IsRead d l image p blocks to m x → S d l image p blocks w b z → S d l image p blocks B8 v y → H d l image p blocks q m
+      → E d l image p blocks (double_shift_by d image op other rule w to a b v next q) (double_shift_by_of rule w to x (y % 32) (double_result op other w x z (y % 32) choice) next choice m)
+  double_by_ends op other rule w to a b v x z y next choice q m less joins doubles place s read behind count h =
+      let tells = λ (n : ℕ) (e : d.number_of v ≡ Some n). l.number_of_alone v n p y h.describes.fits.valid e count.stands in
+      let r = double_shifted d image.align op other w a b (d.number_of v) in
+      let result = double_result op other w x z (y % 32) choice in
+      let moved : Expanded D = writing d image q to r (λ t. lands next (on_state (λ u. with_flags (double_truths d image.align rule w a v r u.flags) u) t)) in
+      elim (is_no_shift (d.number_of v)) as (λ n. is_no_shift (d.number_of v) ≡ n → E d l image p blocks (cond n (unshifted d image to a next q) moved) (double_shift_by_of rule w to x (y % 32) result next choice m)) [
+        | true ↦ λ e.
+            let P : ℕ → Type 0 = λ c. E d l image p blocks (unshifted d image to a next q) (double_shift_by_of rule w to x c (double_result op other w x z c choice) next choice m) in
+            let Q : ℕ → Type 0 = λ k. E d l image p blocks (unshifted d image to a next q) (writing_of m to k (stays next)) in
+            subst P (sym (none_shifted (d.number_of v) y tells e)) (subst Q (sym (none_doubled op other w x z choice joins s.fits)) (unshifted_ends w to a x next q m less place s read h))
+        | false ↦ λ e.
+            let parts = and_parts (is_place to) (is_width (width_of to) w) place in
+            let value = double_stands op other w a b x z (d.number_of v) y choice q m tells s behind h in
+            let own = subst (λ k. S d l image p blocks k r result) (sym (same_width (width_of to) w parts.1)) value in
+            writing_ends d l image p blocks to _ _ q m _ _ parts.0 own h
+            (λ t n holds same. lands_ends d l image p blocks next _ _ less
+            (with_flags_holds d l image p blocks _ _ t n (double_flags_stand rule w a v r x y result t n choice doubles s count value holds) holds))
+      ] refl
+
+  pub double_shift_ends : (op other : Op) (rule : FlagRule) (w : Width) (to : Operand) (r : ℕ) (count : Operand) (next : ℕ) (choice : Choice) (q : Path D) (m : MachineState) → next < 2 ^ 32
+      → IsJoining op other → is_double rule ≡ true → has_place w to ≡ true → is_count count ≡ true → H d l image p blocks q m
+      → E d l image p blocks (double_shift d image op other rule w to r count next q) (double_shift_of op other rule w to r count next choice m)
+  double_shift_ends op other rule w to r count next choice q m less joins doubles place byte h =
+      let parts = and_parts (is_place to) (is_width (width_of to) w) place in
+      let behind = part_stands d l image p blocks w r q m h in
+      reading_ends d l image p blocks to q m _ _ (place_is_value to parts.0) h (λ a x s read.
+      reading_ends d l image p blocks count q m _ _ (count_is_value count byte) h (λ v y t also.
+      double_by_ends op other rule w to a _ v x _ y next choice q m less joins doubles place
+      (subst (λ z. S d l image p blocks z a x) (same_width (width_of to) w parts.1) s) read behind (subst (λ z. S d l image p blocks z v y) (count_width count byte) t) h))

@@ -1,6 +1,5 @@
 -- String operations, once and repeated: their expansion stands for what they do.
-use Rattle.std.proofs.Common.{◌≡◌, ℕ, ◌+◌, ◌-◌, ◌<◌, ◌%◌, ◌^◌, Bool, true, false, cond, ◌==◌, ◌||◌, List, refl, sym, ◌∙◌, ap, subst, arith}
-use Rattle.std.specs.Prelude.{All}
+use Rattle.std.proofs.Common.{◌≡◌, ℕ, ◌+◌, ◌-◌, ◌<◌, ◌%◌, ◌^◌, Bool, true, false, cond, ◌==◌, ◌||◌, List, refl, subst, arith}
 use Rattle.address_regions.specs.Places.{Places}
 use Rattle.bit_words.specs.declared.width.Width.{Width}
 use Rattle.bit_words.specs.declared.width.Width.TheVariants.{B8, B16, B32}
@@ -19,7 +18,7 @@ use Rattle.x86_semantics.specs.declared.flag_rule.FlagRule.TheVariants.{Differen
 use Rattle.x86_semantics.specs.declared.operation.StringKind.{StringKind}
 use Rattle.x86_semantics.specs.declared.operation.StringKind.TheVariants.{Move, Compare, Store, Load, Scan}
 use Rattle.x86_semantics.specs.FlagRules.{flags_after}
-use Rattle.x86_semantics.specs.Operands.{Ended, Next, Faulted, at_address, segment_base}
+use Rattle.x86_semantics.specs.Operands.{Ended, Next, at_address, segment_base}
 use Rattle.x86_semantics.specs.Registers.{EAX, ECX, EDI, ESI, register as register_of}
 use Rattle.x86_semantics.specs.Strings.{compared as compared_of, counted as counted_of, element as element_of, ends_by as ends_by_of, moved as moved_of, repeated as repeated_of, source_address, step_of, string as string_of}
 use Rattle.abstract_state.specs.declared.truth.Truth.{Truth}
@@ -32,7 +31,7 @@ use Rattle.abstract_state.proofs.Logic.{either_stands, opposite_stands}
 use Rattle.abstract_state.proofs.Bridge.{any_known, loading_ends, number_known, storing_ends}
 use Rattle.transfer_functions.specs.Flags.{ruled_truths}
 use Rattle.transfer_functions.specs.Strings.{compared, counted, element, ends_by, moved, repeated, source_value, step_by, string}
-use Rattle.transfer_functions.specs.Values.{branched, is_zero, on_state, part, register_value}
+use Rattle.transfer_functions.specs.Values.{branched, is_zero, on_state, register_value}
 use Rattle.transfer_functions.proofs.Addresses.{add_is}
 use Rattle.transfer_functions.proofs.FlagsSound.{ruled_stand}
 use Rattle.transfer_functions.proofs.Knowing.{KnownWord, eval_known}

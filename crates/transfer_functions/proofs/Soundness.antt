@@ -1,9 +1,7 @@
 -- The laws of instructions, over every lawful domain.
-use Rattle.std.proofs.Common.{◌≡◌, ℕ}
-use Rattle.memory_map.specs.Image.{Image}
 use Rattle.domain_laws.specs.Laws.{Values, IsLawful}
 use Rattle.abstract_state.proofs.Narrowing.{refining-is_sound, refining-keeps_well}
-use Rattle.transfer_functions.specs.Laws.{InstrIsSound, InstrKeepsWell, IsFoundIn}
+use Rattle.transfer_functions.specs.Laws.{InstrIsSound, InstrKeepsWell}
 use Rattle.transfer_functions.proofs.SoundOperations.{instructions_are_sound}
 use Rattle.transfer_functions.proofs.KeepingOperations.{instructions_keep_well}
 

@@ -7,7 +7,7 @@ use Rattle.bit_words.specs.Width.{bits_of, cut, signed_of, is_signed}
 use Rattle.bit_words.specs.Flags.{FlagBits, sum_flags, difference_flags, has_even_parity, has_sign}
 use Rattle.domain_laws.specs.Laws.{Values}
 use Rattle.x86_semantics.specs.declared.flag_rule.FlagRule.{FlagRule}
-use Rattle.x86_semantics.specs.declared.flag_rule.FlagRule.TheVariants.{Sum, SumWithCarry, Difference, DifferenceWithBorrow, Increment, Decrement, Negation, Logic, ShiftLeft, ShiftRight, ShiftRightSigned, RotateLeft, RotateRight, Product, SignedProduct, Status}
+use Rattle.x86_semantics.specs.declared.flag_rule.FlagRule.TheVariants.{Sum, SumWithCarry, Difference, DifferenceWithBorrow, Increment, Decrement, Negation, Logic, ShiftLeft, ShiftRight, ShiftRightSigned, ShiftRightDouble, RotateLeft, RotateRight, Product, SignedProduct, BitTest, BitScan, Status}
 use Rattle.x86_semantics.specs.FlagRules.{is_set}
 use Rattle.abstract_state.specs.declared.truth.Truth.{Truth}
 use Rattle.abstract_state.specs.declared.truth.Truth.TheVariants.{Yes, No, Unknown}
@@ -58,6 +58,15 @@ rotated_right w c r t =
 abbrev pub of_product : Truth → Truths → Truths
 of_product large t = record (unknown_flags t.direction) { carry = large; overflow = large }
 
+-- BT, BTS, BTR and BTC: CF is the bit at a place, which counts modulo the width; ZF is kept, and the other four are free
+abbrev pub of_bit_test : Width → Option ℕ → Option ℕ → Truths → Truths
+of_bit_test w a place t =
+    record (unknown_flags t.direction) { carry = known_of_all (λ x i c. is_set (cut w x) (i % bits_of w)) a place No; zero = t.zero }
+
+-- BSF and BSR: ZF as given; the other five are free
+abbrev pub of_bit_scan : Truth → Truths → Truths
+of_bit_scan zero t = record (unknown_flags t.direction) { zero = zero }
+
 -- SAHF: the bits 0, 2, 4, 6 and 7 of AH
 abbrev pub of_status : Option ℕ → Truths → Truths
 of_status a t = record {
@@ -69,6 +78,10 @@ of_status a t = record {
   overflow = t.overflow;
   direction = t.direction;
 }
+
+-- whether the top bits of a number and its result differ
+abbrev pub sign_changed : Width → Option ℕ → Option ℕ → Truth
+sign_changed w a r = differ (known_of (has_sign w) r) (known_of (λ x. has_sign w (cut w x)) a)
 
 module _ {D : Type 0} (d : Values D) (align : ℕ) where
   -- by an operator's value: whether it is not 0
@@ -95,13 +108,13 @@ module _ {D : Type 0} (d : Values D) (align : ℕ) where
       (known_of_all (λ x y c. (flags w x y c).adjust) a b carry)
       (known_of_all (λ x y c. (flags w x y c).overflow) a b carry) t
 
-  -- SHL of a by c to r: CF is the last bit out at the top, OF whether the top bit changed; AF is free
+  -- SHL and SHLD of a by c to r: CF is the last bit out at the top, OF whether the top bit changed; AF is free
   abbrev pub shifted_left : Width → Option ℕ → ℕ → D → Truths → Truths
   shifted_left w a c r t =
       let carry = known_of (λ x. is_set (cut w x) (bits_of w - c)) a in
       of_result w r (below_width w c carry) Unknown (by_one c (differ (known_of (has_sign w) (d.number_of r)) carry)) t
 
-  -- SHR and SAR of a by c to r: CF is the last bit out at the bottom, OF as given; AF is free
+  -- SHR, SAR and SHRD of a by c to r: CF is the last bit out at the bottom, OF as given; AF is free
   abbrev pub shifted_right : Width → Option ℕ → ℕ → D → Truth → Truths → Truths
   shifted_right w a c r overflow t = of_result w r (below_width w c (known_of (λ x. is_set (cut w x) (c - 1)) a)) Unknown (by_one c overflow) t
 
@@ -118,8 +131,11 @@ module _ {D : Type 0} (d : Values D) (align : ℕ) where
   ruled_truths ShiftLeft w a b r t = counted (d.number_of b) (λ c. shifted_left w (d.number_of a) c r t) (unknown_flags t.direction) t
   ruled_truths ShiftRight w a b r t = counted (d.number_of b) (λ c. shifted_right w (d.number_of a) c r (known_of (λ x. has_sign w (cut w x)) (d.number_of a)) t) (unknown_flags t.direction) t
   ruled_truths ShiftRightSigned w a b r t = counted (d.number_of b) (λ c. shifted_right w (d.number_of a) c r No t) (unknown_flags t.direction) t
+  ruled_truths ShiftRightDouble w a b r t = counted (d.number_of b) (λ c. shifted_right w (d.number_of a) c r (sign_changed w (d.number_of a) (d.number_of r)) t) (unknown_flags t.direction) t
   ruled_truths RotateLeft w a b r t = counted (d.number_of b) (λ c. rotated_left w c (d.number_of r) t) (rotated Unknown Unknown t) t
   ruled_truths RotateRight w a b r t = counted (d.number_of b) (λ c. rotated_right w c (d.number_of r) t) (rotated Unknown Unknown t) t
   ruled_truths Product w a b r t = of_product (known_of_all (λ x y c. nat_le (2 ^ bits_of w) (cut w x * cut w y)) (d.number_of a) (d.number_of b) No) t
   ruled_truths SignedProduct w a b r t = of_product (known_of_all (λ x y c. not (is_signed w (signed_of w x *ℤ signed_of w y))) (d.number_of a) (d.number_of b) No) t
+  ruled_truths BitTest w a b r t = of_bit_test w (d.number_of a) (d.number_of b) t
+  ruled_truths BitScan w a b r t = of_bit_scan (by_operator Eq w a (d.number 0)) t
   ruled_truths Status w a b r t = of_status (d.number_of a) t

@@ -5,6 +5,8 @@ pub mod Moves
 pub mod Flow
 pub mod Shifts
 pub mod Products
+pub mod BitTests
+pub mod Exchanges
 pub mod Bits
 pub mod Strings
 pub mod Following

@@ -8,13 +8,12 @@ use Rattle.domain_laws.specs.Laws.{Values}
 use Rattle.x86_syntax.specs.declared.instr.Address.{Address}
 use Rattle.x86_syntax.specs.declared.instr.Cond.{Cond}
 use Rattle.x86_syntax.specs.declared.instr.Operand.{Operand}
-use Rattle.x86_syntax.specs.declared.instr.Operand.TheVariants.{Memory}
 use Rattle.x86_semantics.specs.Registers.{ESP, EBP}
 use Rattle.abstract_state.specs.Flags.{truth_met}
 use Rattle.abstract_state.specs.State.{Known}
 use Rattle.abstract_state.specs.Expanding.{Expanded, Path, lands}
 use Rattle.abstract_state.specs.Accessing.{loading, storing}
-use Rattle.transfer_functions.specs.Values.{above, address_value, below, either_way, offset_value, on_state, part, reading, register_value, value_of_truth, with_part, with_register, writing}
+use Rattle.transfer_functions.specs.Values.{above, below, either_way, offset_value, on_state, part, reading, register_value, value_of_truth, with_part, with_register, writing}
 
 abbrev pub stack_pointer : {D : Type 0} → Known D → D
 stack_pointer s = register_value ESP s

@@ -4,14 +4,16 @@ use Rattle.memory_map.specs.Image.{Image}
 use Rattle.domain_laws.specs.Laws.{Values}
 use Rattle.x86_syntax.specs.declared.instr.Instr.{Instr}
 use Rattle.x86_semantics.specs.declared.operation.Operation.{Operation}
-use Rattle.x86_semantics.specs.declared.operation.Operation.TheVariants.{Combine, Carry, Compare, Move, Convert, Lea, Exchange, Shift, MultiplyLong, Multiply, Divide, Jump, Goto, Loop, JumpIfNoCount, Call, Return, Push, Pop, Leave, Set, MoveIf, Flag, LoadStatus, StoreStatus, Element, Nothing, Stop}
+use Rattle.x86_semantics.specs.declared.operation.Operation.TheVariants.{Combine, Carry, Compare, Move, Convert, Lea, Exchange, Shift, MultiplyLong, Multiply, Divide, Jump, Goto, Loop, JumpIfNoCount, Call, Return, Push, Pop, Leave, Set, MoveIf, Flag, LoadStatus, StoreStatus, Element, Nothing, Stop, DoubleShift, TestBit, FindBit, CompareExchange, ExchangeAdd}
 use Rattle.x86_semantics.specs.Operands.{next_address}
 use Rattle.x86_semantics.specs.Operations.{operation_of}
 use Rattle.abstract_state.specs.State.{Known}
 use Rattle.abstract_state.specs.Expanding.{Expanded, Path, ended, lands, starts}
 use Rattle.transfer_functions.specs.Arithmetic.{combine, carry, compare}
 use Rattle.transfer_functions.specs.Moves.{move, convert, lea, exchange, set, move_if, push, pop, leave}
-use Rattle.transfer_functions.specs.Shifts.{shift}
+use Rattle.transfer_functions.specs.Shifts.{shift, double_shift}
+use Rattle.transfer_functions.specs.BitTests.{test_bit, find_bit}
+use Rattle.transfer_functions.specs.Exchanges.{compare_exchange, exchange_add}
 use Rattle.transfer_functions.specs.Products.{multiply_long, multiply, divide}
 use Rattle.transfer_functions.specs.Flow.{jump, goto, loop, jump_if_no_count, call, return}
 use Rattle.transfer_functions.specs.Bits.{change_flag, load_status, store_status}
@@ -28,6 +30,11 @@ module _ {D : Type 0} (d : Values D) (image : Image) (k : ℕ) where
   expand_operation (Lea to address) at n p = lea d image to address (next_address at n) p
   expand_operation (Exchange place w r) at n p = exchange d image place w r (next_address at n) p
   expand_operation (Shift op rule w to count) at n p = shift d image op rule w to count (next_address at n) p
+  expand_operation (DoubleShift op other rule w to r count) at n p = double_shift d image op other rule w to r count (next_address at n) p
+  expand_operation (TestBit change w r index) at n p = test_bit d image change w r index (next_address at n) p
+  expand_operation (FindBit op w r from) at n p = find_bit d image op w r from (next_address at n) p
+  expand_operation (CompareExchange place w r) at n p = compare_exchange d image place w r (next_address at n) p
+  expand_operation (ExchangeAdd place w r) at n p = exchange_add d image place w r (next_address at n) p
   expand_operation (MultiplyLong high rule w from) at n p = multiply_long d image high rule w from (next_address at n) p
   expand_operation (Multiply w r left right) at n p = multiply d image w r left right (next_address at n) p
   expand_operation (Divide signed w by) at n p = divide d image signed w by (next_address at n) p

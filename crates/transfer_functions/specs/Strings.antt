@@ -7,7 +7,7 @@ use Rattle.memory_map.specs.Image.{Image}
 use Rattle.domain_laws.specs.Laws.{Values}
 use Rattle.x86_syntax.specs.declared.instr.Seg.{Seg}
 use Rattle.x86_syntax.specs.declared.instr.Repeat.{Repeat}
-use Rattle.x86_syntax.specs.declared.instr.Repeat.TheVariants.{Once, Rep, Repe, Repne}
+use Rattle.x86_syntax.specs.declared.instr.Repeat.TheVariants.{Once, Repe, Repne}
 use Rattle.x86_semantics.specs.declared.flag_rule.FlagRule.TheVariants.{Difference}
 use Rattle.x86_semantics.specs.declared.operation.StringKind.{StringKind}
 use Rattle.x86_semantics.specs.declared.operation.StringKind.TheVariants.{Move, Compare, Store, Load, Scan}

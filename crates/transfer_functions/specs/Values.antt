@@ -3,7 +3,6 @@ use Rattle.std.specs.Prelude.{ℕ, ◌%◌, ◌==◌, if◌then◌else◌, ⊤, 
 use Rattle.std.specs.Int.{cast_unsigned, w32}
 use Rattle.bit_words.specs.declared.width.Width.{Width}
 use Rattle.bit_words.specs.declared.width.Width.TheVariants.{B8, B16, B32}
-use Rattle.bit_words.specs.declared.op.Op.{Op}
 use Rattle.bit_words.specs.declared.op.Op.TheVariants as ops
 use Rattle.bit_words.specs.Width.{cut}
 use Rattle.memory_map.specs.Image.{Image}
@@ -20,7 +19,7 @@ use Rattle.x86_syntax.specs.declared.instr.Operand.TheVariants.{Register, Number
 use Rattle.x86_semantics.specs.Registers.{byte_part, put_byte_part}
 use Rattle.abstract_state.specs.declared.truth.Truth.{Truth}
 use Rattle.abstract_state.specs.declared.truth.Truth.TheVariants.{Yes, No, Unknown}
-use Rattle.abstract_state.specs.Truth.{truth_of_number, opposite}
+use Rattle.abstract_state.specs.Truth.{truth_of_number}
 use Rattle.abstract_state.specs.State.{Known, with_register_value}
 use Rattle.abstract_state.specs.declared.stored.Stored.TheVariants.{Done}
 use Rattle.abstract_state.specs.Expanding.{Expanded, Path, Written, ended, joined, lands}

@@ -1,11 +1,11 @@
-ghost use Rattle.std.specs.Prelude.{◌≡◌, ◌-◌, ◌*◌, ◌^◌, ◌<◌, ◌≤◌, not, nat_le, ◌*ℤ◌};
+ghost use Rattle.std.specs.Prelude.{◌≡◌, ◌-◌, ◌*◌, ◌%◌, ◌^◌, ◌<◌, ◌≤◌, not, nat_le, ◌*ℤ◌};
 ghost use Rattle.bit_words.specs.Flags.{difference_flags, has_even_parity, has_sign, sum_flags, unpacked};
 ghost use Rattle.bit_words.specs.Width.{bits_of, cut, is_signed, signed_of};
 ghost use Rattle.domain_laws.specs.Made.{values_of};
 ghost use Rattle.abstract_state.specs.Flags.{unknown_flags};
 ghost use Rattle.abstract_state.specs.Truth.{truth_of};
 ghost use Rattle.x86_semantics.specs.FlagRules.{is_set};
-ghost use Rattle.transfer_functions.specs.Flags.{below_width, by_one, by_operator, counted, known_of, known_of_all, of_product, of_result, of_status, rotated, rotated_left, rotated_right, ruled_truths, shifted_left, shifted_right};
+ghost use Rattle.transfer_functions.specs.Flags.{below_width, by_one, by_operator, counted, known_of, known_of_all, of_bit_scan, of_bit_test, of_product, of_result, of_status, rotated, rotated_left, rotated_right, ruled_truths, shifted_left, shifted_right, sign_changed};
 
 use abstract_state::{Truth, Truths};
 use bit_words::{Flags, Op, Width, flags_of_add, flags_of_sub};
@@ -153,10 +153,20 @@ fn is_large_signed(w: Width, a: Option<u32>, b: Option<u32>) -> Truth
     }
 }
 
+// The bit of a number at a place, which counts modulo the width.
+fn tested_bit(w: Width, a: Option<u32>, place: Option<u32>) -> Truth
+    ensures { result ≡ known_of_all (λ x i c. is_set (cut w x) (i % bits_of w)) a place Truth.No }
+{
+    match (a, place) {
+        (Some(x), Some(i)) => Truth::of(is_set(w.cut(x), i % w.bits())),
+        _ => Truth::Unknown,
+    }
+}
+
 // ---- by a result
 
 // Whether an operator's value is not 0.
-fn by_operator<D: Domain>(op: Op, w: Width, a: D, b: D, align: u32) -> Truth
+pub(crate) fn by_operator<D: Domain>(op: Op, w: Width, a: D, b: D, align: u32) -> Truth
     ensures { result ≡ by_operator (values_of D.Domain.own D.eq) align op w a b }
 {
     Truth::of_number(D::eval(op, w, a, b, align).number_of())
@@ -227,6 +237,13 @@ fn shifted_right<D: Domain>(w: Width, of: RightShift<D>, c: u32, t: &Truths, ali
         overflow: by_one(c, of.overflow),
     };
     of_result(w, of.r, others, t, align)
+}
+
+// Whether the top bits of a number and its result differ.
+fn sign_changed(w: Width, a: Option<u32>, r: Option<u32>) -> Truth
+    ensures { result ≡ sign_changed w a r }
+{
+    sign(w, r).xor(top_bit(w, a))
 }
 
 fn rotated(carry: Truth, overflow: Truth, t: &Truths) -> Truths
@@ -323,6 +340,25 @@ fn of_product(large: Truth, t: &Truths) -> Truths
     rotated(large, large, &Truths::unknown(t.direction))
 }
 
+fn of_bit_test(w: Width, a: Option<u32>, place: Option<u32>, t: &Truths) -> Truths
+    ensures { result ≡ of_bit_test w a place t.now }
+{
+    Truths {
+        carry: tested_bit(w, a, place),
+        zero: t.zero,
+        ..Truths::unknown(t.direction)
+    }
+}
+
+fn of_bit_scan(zero: Truth, t: &Truths) -> Truths
+    ensures { result ≡ of_bit_scan zero t.now }
+{
+    Truths {
+        zero,
+        ..Truths::unknown(t.direction)
+    }
+}
+
 fn of_status(a: Option<u32>, t: &Truths) -> Truths
     ensures { result ≡ of_status a t.now }
 {
@@ -386,10 +422,18 @@ pub fn flags_after<D: Domain>(
             let overflow = Truth::No;
             after_right_shift(w, RightShift { a, r, overflow }, b, t, align)
         }
+        FlagRule::ShiftRightDouble => {
+            let overflow = sign_changed(w, a, r.number_of());
+            after_right_shift(w, RightShift { a, r, overflow }, b, t, align)
+        }
         FlagRule::RotateLeft => after_left_rotation(w, b, r.number_of(), t),
         FlagRule::RotateRight => after_right_rotation(w, b, r.number_of(), t),
         FlagRule::Product => of_product(is_large(w, a, b), t),
         FlagRule::SignedProduct => of_product(is_large_signed(w, a, b), t),
+        FlagRule::BitTest => of_bit_test(w, a, b, t),
+        FlagRule::BitScan => {
+            of_bit_scan(by_operator(Op::Eq, w, operands.0, D::number(0), align), t)
+        }
         FlagRule::Status => of_status(a, t),
     }
 }

@@ -5,8 +5,10 @@
 
 mod after;
 mod arithmetic;
+mod bit_tests;
 mod bits;
 mod code;
+mod exchanges;
 mod expand;
 mod flags;
 mod flow;

@@ -15,7 +15,8 @@ use domain_laws::Domain;
 use x86_semantics::{FlagRule, upper_register};
 use x86_syntax::Operand;
 
-const EAX: u8 = 0;
+/// The register of the accumulator.
+pub(crate) const EAX: u8 = 0;
 
 // Quotient and remainder, where the quotient fits.
 fn quotients_unsigned(w: Width, x: u64, y: u64) -> Option<(u32, u32)>
@@ -107,7 +108,7 @@ fn product<D: Domain>(op: Op, w: Width, a: D, b: D) -> D
     exact(op, w, a.number_of(), b.number_of())
 }
 
-fn accumulator<D: Domain>(s: &State<D>, w: Width, align: u32) -> D
+pub(crate) fn accumulator<D: Domain>(s: &State<D>, w: Width, align: u32) -> D
     ensures value { result ≡ accumulator (values_of D.Domain.own D.eq) align w s.now }
     ensures holds { MayHold (values_of D.Domain.own D.eq) s.now.parts.blocks w result }
 {

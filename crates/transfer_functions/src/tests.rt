@@ -9,8 +9,8 @@ ghost use Rattle.partitioned_memory.specs.Well.{MayHold};
 mod known_rows;
 mod rows;
 
-use crate::{KnownCode, expand_instr, known_code};
 use crate::values::{above, anything, below, low_number, number, register_value, set_register};
+use crate::{KnownCode, expand_instr, known_code};
 use abstract_state::{Expansion, Note, Path, Seen, State, Stored, Truth, Truths};
 use address_regions::Region;
 use bit_words::{Op, Width};

@@ -52,7 +52,7 @@ never_twice : (group : Group) (size : Bool) → may_escape group size ≡ false 
 never_twice Empty size h = cc
 never_twice Rep false h = cc
 never_twice Rep true h = refl
-never_twice Lock size h = refl
+never_twice Lock size h = cc
 never_twice Repne size h = refl
 
 -- behind 0F 1E
@@ -110,7 +110,22 @@ second_shortest Rep false segment h = record {
   least = second_least (prefixed Rep false segment) (rep_modrm segment);
 }
 second_shortest Rep true segment h = cc
-second_shortest Lock size segment h = cc
+second_shortest Lock false segment h = record {
+  string = 0xC0 ∷ 0 ∷ [];
+  are_bytes = two_bytes 0xC0 0 (omega arith) (omega arith);
+  size = refl;
+  names = named_by (matched (Byte (λ code. escaped (prefixed Lock false segment) code)) (0xC0 ∷ 0 ∷ []));
+  whole = refl;
+  least = second_least (prefixed Lock false segment) (lock_modrm false segment Two);
+}
+second_shortest Lock true segment h = record {
+  string = 0xC1 ∷ 0 ∷ [];
+  are_bytes = two_bytes 0xC1 0 (omega arith) (omega arith);
+  size = refl;
+  names = named_by (matched (Byte (λ code. escaped (prefixed Lock true segment) code)) (0xC1 ∷ 0 ∷ []));
+  whole = refl;
+  least = second_least (prefixed Lock true segment) (lock_modrm true segment Two);
+}
 second_shortest Repne size segment h = cc
 
 pub second_dead : (group : Group) (size : Bool) (segment : Option ℕ) → may_escape group size ≡ false → (s : List ℕ) → matched (Byte (λ code. escaped (prefixed group size segment) code)) s ≡ None

@@ -1,7 +1,7 @@
 -- The decoder's steps: what an answer behind a byte says of the bytes before it.
 use Rattle.std.proofs.Common.{◌≡◌, ◌≢◌, ℕ, ◌+◌, ◌-◌, ◌≤◌, ◌<◌, List, [], ◌∷◌, inl, inr, Bool, true, false, length, take, drop, refl, ◌∙◌, ap, Option, Some, None, Result, Ok, Err, arith}
 use Rattle.std.proofs.lemmas.Bool.{ne_eqb}
-use Rattle.std.specs.Prelude.{◌==◌, ◌&&◌}
+use Rattle.std.specs.Prelude.{◌==◌}
 use Rattle.x86_syntax.specs.declared.instr.Instr.{Instr}
 use Rattle.x86_syntax.specs.declared.instr.Place.{Place}
 use Rattle.x86_syntax.specs.declared.instr.Place.TheVariants as places
@@ -13,7 +13,7 @@ use Rattle.x86_syntax.specs.declared.table.Map.TheVariants.{One, Two, Three}
 use Rattle.x86_syntax.specs.declared.table.Row.{Row}
 use Rattle.x86_syntax.specs.Formats.{Format, Byte, matched, number_of}
 use Rattle.x86_syntax.specs.Opcodes.{row_of, opcode_row, takes_modrm, may_escape, may_escape_twice}
-use Rattle.x86_syntax.specs.Spelling.{spelled_with, is_prefix, with_prefix, opcodes, escaped, opcode_then, behind, behind_modrm, needs_memory, ending, place_then, address_then, index_register, displacement_size, mod_of, reg_of, rm_of, row_number_size, instr_of}
+use Rattle.x86_syntax.specs.Spelling.{spelled_with, is_prefix, with_prefix, opcodes, escaped, opcode_then, behind, behind_modrm, is_wrong_place, ending, place_then, address_then, index_register, displacement_size, mod_of, reg_of, rm_of, row_number_size, instr_of}
 use Rattle.x86_syntax.proofs.FormatLemmas.{never_matched}
 use Rattle.x86_syntax.proofs.SpellingLemmas.{spelled_prefix, spelled_refused, spelled_opcode}
 use Rattle.x86_syntax.proofs.TableLemmas.{prefixed}
@@ -66,9 +66,9 @@ two_opcode : (p : Prefixes) (code : ℕ) → code ≢ 0x1E → escaped p code �
 unfolding escaped
 two_opcode p code ne = rw (ne_eqb code 0x1E ne) refl
 
-register_never : (p : Prefixes) (row : Row) (code m : ℕ) (s : List ℕ) → needs_memory p row ≡ true → mod_of m ≡ 3 → matched (behind_modrm p (Some row) code m) s ≡ None
+wrong_never : (p : Prefixes) (row : Row) (code m : ℕ) (s : List ℕ) → is_wrong_place p row (mod_of m) ≡ true → matched (behind_modrm p (Some row) code m) s ≡ None
 unfolding behind_modrm
-register_never p row code m s memory three = rw (memory, three) (never_matched {A = Instr} s)
+wrong_never p row code m s wrong = rw wrong (never_matched {A = Instr} s)
 
 pub opcode_escape : (p : Prefixes) (code : ℕ) (bytes : List ℕ) (at : ℕ) (r : Result (Instr × ℕ) DecodeFault) → code ≡ 15 → ReadsOrDead (matched (Byte (λ second. escaped p second))) bytes at r → ReadsOrDead (matched (opcodes p code)) bytes at r
 unfolding opcodes
@@ -155,9 +155,9 @@ none_never : (p : Prefixes) (code m : ℕ) (s : List ℕ) → matched (behind_mo
 unfolding behind_modrm
 none_never p code m s = never_matched {A = Instr} s
 
-memory_place : (p : Prefixes) (row : Row) (code m : ℕ) → (needs_memory p row && (mod_of m == 3)) ≡ false → behind_modrm p (Some row) code m ≡ place_then m (λ place. ending p row code m place)
+right_place : (p : Prefixes) (row : Row) (code m : ℕ) → is_wrong_place p row (mod_of m) ≡ false → behind_modrm p (Some row) code m ≡ place_then m (λ place. ending p row code m place)
 unfolding behind_modrm
-memory_place p row code m memory = rw memory refl
+right_place p row code m right = rw right refl
 
 pub modrm_end : (p : Prefixes) (map : Map) (code n : ℕ) (bytes : List ℕ) (at : ℕ) → IsLeastBelow 8 p map code n → bytes ≡ [] → Reads (matched (Byte (λ m. behind_modrm p (row_of p map code (reg_of m)) code m))) bytes at (Err (fault_at (at + (1 + n))))
 modrm_end p map code n bytes at least e = needs_empty _ (1 + n) at bytes (omega arith) (modrm_shortest p map code n least) e
@@ -167,15 +167,15 @@ unfolding matched
 modrm_none p map code m first bytes rest at found e none =
     rw e (reads_or_dead (matched (Byte (λ m. behind_modrm p (row_of p map code (reg_of m)) code m))) (λ s. None) m rest at (Err (NotListed at)) (λ s. at_row p map code m None s none ∙ none_never p code m s) (modrm_begins p map code first found) (inr (refl, λ s. refl)))
 
-pub modrm_register : (p : Prefixes) (map : Map) (code m : ℕ) (first row : Row) (bytes rest : List ℕ) (at : ℕ) → opcode_row p map code ≡ Some first → bytes ≡ m ∷ rest → row_of p map code (reg_of m) ≡ Some row → needs_memory p row ≡ true → mod_of m ≡ 3 → Reads (matched (Byte (λ m. behind_modrm p (row_of p map code (reg_of m)) code m))) bytes at (Err (NotListed at))
+pub modrm_wrong : (p : Prefixes) (map : Map) (code m : ℕ) (first row : Row) (bytes rest : List ℕ) (at : ℕ) → opcode_row p map code ≡ Some first → bytes ≡ m ∷ rest → row_of p map code (reg_of m) ≡ Some row → is_wrong_place p row (mod_of m) ≡ true → Reads (matched (Byte (λ m. behind_modrm p (row_of p map code (reg_of m)) code m))) bytes at (Err (NotListed at))
 unfolding matched
-modrm_register p map code m first row bytes rest at found e is memory three =
-    rw e (reads_or_dead (matched (Byte (λ m. behind_modrm p (row_of p map code (reg_of m)) code m))) (λ s. None) m rest at (Err (NotListed at)) (λ s. at_row p map code m (Some row) s is ∙ register_never p row code m s memory three) (modrm_begins p map code first found) (inr (refl, λ s. refl)))
+modrm_wrong p map code m first row bytes rest at found e is wrong =
+    rw e (reads_or_dead (matched (Byte (λ m. behind_modrm p (row_of p map code (reg_of m)) code m))) (λ s. None) m rest at (Err (NotListed at)) (λ s. at_row p map code m (Some row) s is ∙ wrong_never p row code m s wrong) (modrm_begins p map code first found) (inr (refl, λ s. refl)))
 
-pub modrm_place : (p : Prefixes) (map : Map) (code m : ℕ) (row : Row) (bytes rest : List ℕ) (at : ℕ) (r : Result (Instr × ℕ) DecodeFault) → bytes ≡ m ∷ rest → row_of p map code (reg_of m) ≡ Some row → (needs_memory p row && (mod_of m == 3)) ≡ false → Reads (matched (place_then m (λ place. ending p row code m place))) rest (at + 1) r → Reads (matched (Byte (λ m. behind_modrm p (row_of p map code (reg_of m)) code m))) bytes at r
+pub modrm_place : (p : Prefixes) (map : Map) (code m : ℕ) (row : Row) (bytes rest : List ℕ) (at : ℕ) (r : Result (Instr × ℕ) DecodeFault) → bytes ≡ m ∷ rest → row_of p map code (reg_of m) ≡ Some row → is_wrong_place p row (mod_of m) ≡ false → Reads (matched (place_then m (λ place. ending p row code m place))) rest (at + 1) r → Reads (matched (Byte (λ m. behind_modrm p (row_of p map code (reg_of m)) code m))) bytes at r
 unfolding matched
-modrm_place p map code m row bytes rest at r e is memory h =
-    rw e (reads_byte (matched (Byte (λ m. behind_modrm p (row_of p map code (reg_of m)) code m))) (matched (place_then m (λ place. ending p row code m place))) m rest at r (λ s. at_row p map code m (Some row) s is ∙ ap (λ t. matched t s) (memory_place p row code m memory)) h)
+modrm_place p map code m row bytes rest at r e is right h =
+    rw e (reads_byte (matched (Byte (λ m. behind_modrm p (row_of p map code (reg_of m)) code m))) (matched (place_then m (λ place. ending p row code m place))) m rest at r (λ s. at_row p map code m (Some row) s is ∙ ap (λ t. matched t s) (right_place p row code m right)) h)
 
 -- the place
 

@@ -2,7 +2,7 @@ ghost use Rattle.std.specs.Prelude.{◌≡◌, ◌==◌, ◌&&◌, ℕ, ◌+◌,
 ghost use Rattle.std.specs.Result.{result_ok};
 ghost use Rattle.x86_syntax.specs.Formats.{Byte, matched};
 ghost use Rattle.x86_syntax.specs.Opcodes.{opcode_row, row_of, takes_modrm, may_escape, may_escape_twice};
-ghost use Rattle.x86_syntax.specs.Spelling.{spelled_with, opcodes, escaped, opcode_then, behind_modrm, place_then, address_then, ending, mod_of, needs_memory, reg_of, row_number_size};
+ghost use Rattle.x86_syntax.specs.Spelling.{spelled_with, opcodes, escaped, opcode_then, behind_modrm, place_then, address_then, ending, is_wrong_place, mod_of, reg_of, row_number_size};
 ghost use Rattle.x86_syntax.specs.Decodes.{Decodes, HasSpelling, decoded};
 ghost use Rattle.x86_decoder.specs.Refusals.{Refused};
 ghost use Rattle.x86_decoder.specs.Reading.{Reads, ReadsOrDead, IsLeastBelow, fault_at, shortest_behind, shortest_escaped};
@@ -10,7 +10,7 @@ ghost use Rattle.x86_decoder.specs.Reading.{Reads, ReadsOrDead, IsLeastBelow, fa
 use crate::DecodeFault;
 use crate::operands::{
     Pieces, address, displacement_bytes, index_of, instr, number, reg, row_size, unnumbered,
-    wants_memory,
+    wants_memory, wants_register,
 };
 use crate::prefix_bytes::{add_prefix, is_prefix_byte};
 use x86_syntax::{Group, Instr, Map, Place, Prefixes, Row, find_opcode, find_row};
@@ -122,9 +122,9 @@ fn escapes(prefixes: Prefixes) -> bool
     ensures { result ≡ may_escape prefixes.group prefixes.size }
 {
     match prefixes.group {
-        Group::Empty => true,
+        Group::Empty | Group::Lock => true,
         Group::Rep => !prefixes.size,
-        _ => false,
+        Group::Repne => false,
     }
 }
 
@@ -217,11 +217,15 @@ fn read_modrm(
     }
 }
 
-/// Whether the ModRM byte names a register where only memory is listed.
+/// Whether the ModRM byte names a register where only memory is listed, or memory where only a register is.
 fn is_wrong_place(prefixes: Prefixes, row: Row, modrm: u8) -> bool
-    ensures { result ≡ (needs_memory prefixes row && (mod_of modrm == 3)) }
+    ensures { result ≡ is_wrong_place prefixes row (mod_of modrm) }
 {
-    wants_memory(prefixes, row) && modrm / 64 == 3
+    if modrm / 64 == 3 {
+        wants_memory(prefixes, row)
+    } else {
+        wants_register(row)
+    }
 }
 
 /// The least number of bytes behind the address in the rows of an opcode.

@@ -4,7 +4,7 @@ ghost use Rattle.std.specs.Option.{option_to_list};
 ghost use Rattle.std.specs.Int.{cast_signed, w8};
 ghost use Rattle.x86_decoder.specs.Pieces.{parts_of, address_place};
 ghost use Rattle.x86_syntax.specs.Formats.{number_of};
-ghost use Rattle.x86_syntax.specs.Spelling.{word_width, form_width, segment_named, sign_extended, number_size, row_number_size, placed, absolute, operands, arithmetic, shift, named, place_in, is_lock, repeat_of, string_segment, instr_of, reg_of, displacement_size, index_register, needs_memory};
+ghost use Rattle.x86_syntax.specs.Spelling.{word_width, form_width, segment_named, sign_extended, number_size, row_number_size, placed, absolute, operands, arithmetic, shift, named, place_in, is_lock, repeat_of, string_segment, instr_of, reg_of, displacement_size, index_register, needs_memory, needs_register};
 
 use arrayvec::ArrayVec;
 use bit_words::Width;
@@ -206,6 +206,13 @@ pub fn wants_memory(prefixes: Prefixes, row: Row) -> bool
     matches!(prefixes.group, Group::Lock) || matches!(row.forms.second, Form::M)
 }
 
+/// Whether a ModRM byte that names memory is not listed.
+pub fn wants_register(row: Row) -> bool
+    ensures { result ≡ needs_register row }
+{
+    matches!(row.forms.first, Form::Uv)
+}
+
 fn operands_of(prefixes: Prefixes, row: Row, pieces: Pieces) -> ArrayVec<Operand, 3>
     ensures { result.items ≡ operands prefixes (parts_of pieces) row.forms.first ++ operands prefixes (parts_of pieces) row.forms.second ++ operands prefixes (parts_of pieces) row.forms.third }
 {
@@ -237,7 +244,7 @@ fn operand(prefixes: Prefixes, pieces: Pieces, form: Form) -> Option<Operand>
         Form::Ew => Some(at_place(Width::B16, segment, pieces.place)),
         Form::Gb => Some(Operand::Register(Width::B8, reg(pieces.modrm))),
         Form::Gv => Some(Operand::Register(v, reg(pieces.modrm))),
-        Form::M | Form::N => Some(at_place(v, Seg::Plain, pieces.place)),
+        Form::M | Form::N | Form::Uv => Some(at_place(v, Seg::Plain, pieces.place)),
         Form::Ab => Some(Operand::Register(Width::B8, 0)),
         Form::Av => Some(Operand::Register(v, 0)),
         Form::Rb => Some(Operand::Register(Width::B8, pieces.code % 8)),

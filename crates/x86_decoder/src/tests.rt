@@ -275,7 +275,49 @@ EB 80|jmp 08047F82
 E9 FB 7F FB E7|jmp F0000000
 66 66 90|nop
 66 66 66 66 66 66 66 66 66 66 66 66 66 66 90|nop
-66 66 66 66 66 66 66 66 66 66 66 66 F7 D0|not ax";
+66 66 66 66 66 66 66 66 66 66 66 66 F7 D0|not ax
+0F A4 C8 04|shld eax, ecx, 04
+66 0F A4 CA 1F|shld dx, cx, 1F
+0F A4 5D FC 10|shld dword [ebp+FFFFFFFC], ebx, 10
+0F A5 D0|shld eax, edx, cl
+66 0F A5 38|shld word [eax], di, cl
+0F AC D1 08|shrd ecx, edx, 08
+66 0F AC C3 00|shrd bx, ax, 00
+0F AD C2|shrd edx, eax, cl
+64 0F AD 03|shrd dword fs:[ebx], eax, cl
+0F A3 C8|bt eax, ecx
+66 0F A3 D6|bt si, dx
+0F AB D8|bts eax, ebx
+66 0F AB F7|bts di, si
+0F B3 CA|btr edx, ecx
+0F BB C4|btc esp, eax
+0F BA E0 1F|bt eax, 1F
+66 0F BA E3 0F|bt bx, 0F
+0F BA E9 00|bts ecx, 00
+0F BA F2 07|btr edx, 07
+0F BA FF 20|btc edi, 20
+66 0F BA F8 80|btc ax, 80
+64 0F BA E0 01|bt eax, 01
+0F BC C8|bsf ecx, eax
+0F BC 04 24|bsf eax, dword [esp]
+66 0F BC D1|bsf dx, cx
+0F BD C1|bsr eax, ecx
+66 0F BD 1D 00 00 00 09|bsr bx, word [09000000]
+65 0F BD 00|bsr eax, dword gs:[eax]
+0F B0 CA|cmpxchg dl, cl
+0F B0 23|cmpxchg byte [ebx], ah
+0F B1 D1|cmpxchg ecx, edx
+66 0F B1 C8|cmpxchg ax, cx
+F0 0F B1 0B|lock cmpxchg dword [ebx], ecx
+F0 66 0F B1 0E|lock cmpxchg word [esi], cx
+F0 0F B0 15 10 00 00 09|lock cmpxchg byte [09000010], dl
+0F C0 E0|xadd al, ah
+0F C1 D8|xadd eax, ebx
+66 0F C1 0F|xadd word [edi], cx
+F0 0F C1 01|lock xadd dword [ecx], eax
+F0 0F C0 48 01|lock xadd byte [eax+00000001], cl
+F0 64 0F C1 00|lock xadd dword fs:[eax], eax
+66 F0 0F C1 10|lock xadd word [eax], dx";
 
 /// Bytes in hexadecimal, and why no instruction stands there.
 const REFUSALS: &str = "\
@@ -308,7 +350,6 @@ F2 90|NotListed 1
 F2 A4|NotListed 1
 F0 90|NotListed 1
 F0 01 C0|NotListed 2
-F0 0F|NotListed 1
 66 F3 0F|NotListed 2
 F0 FF 10|NotListed 2
 F0 80 38 00|NotListed 2
@@ -393,7 +434,42 @@ FF 18|NotListed 1
 FF 28|NotListed 1
 C1 30|NotListed 1
 D0 D0|NotListed 1
-D1 18|NotListed 1";
+D1 18|NotListed 1
+F0 0F|Truncated
+F0 66 0F|Truncated
+F0 0F B1|Truncated
+0F A4|Truncated
+0F A4 C8|Truncated
+0F BA|Truncated
+0F BA E0|Truncated
+66 66 66 66 66 66 66 66 66 66 66 66 0F A5|Truncated
+66 66 66 66 66 66 66 66 66 66 66 66 0F A4|TooLong
+66 66 66 66 66 66 66 66 66 66 66 66 66 0F|TooLong
+F0 F0 F0 F0 F0 F0 F0 F0 F0 F0 F0 F0 0F|Truncated
+F0 F0 F0 F0 F0 F0 F0 F0 F0 F0 F0 F0 F0 0F|TooLong
+0F A3 08|NotListed 2
+0F AB 00|NotListed 2
+0F B3 45 00|NotListed 2
+66 0F BB 00|NotListed 3
+0F BA 20 00|NotListed 2
+66 0F BA 3D|NotListed 3
+0F BA C0|NotListed 2
+0F BA D8|NotListed 2
+F3 0F BC C1|NotListed 2
+F2 0F BC C1|NotListed 1
+F3 0F BD C1|NotListed 2
+F3 0F A4 C0 00|NotListed 2
+F3 0F C1 00|NotListed 2
+F0 0F AB C0|NotListed 2
+F0 0F BA E8|NotListed 2
+F0 0F A4|NotListed 2
+F0 0F AF|NotListed 2
+F0 0F 1E|NotListed 2
+F0 0F B1 C8|NotListed 3
+F0 0F C0 C0|NotListed 3
+F0 66 0F B0|NotListed 3
+66 0F C0|NotListed 2
+66 0F B0 CA|NotListed 2";
 
 fn bytes_of(alloc: Global, words: &str) -> Result<Vec<u8>, Fail> {
     let mut bytes = Vec::new(alloc);

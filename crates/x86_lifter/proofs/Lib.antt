@@ -6,5 +6,7 @@ pub mod FlowMeaning
 pub mod BitMeaning
 pub mod ProductMeaning
 pub mod ShiftMeaning
+pub mod BitTestMeaning
+pub mod ExchangeMeaning
 pub mod StringMeaning
 pub mod Whole

@@ -4,7 +4,7 @@ use Rattle.memory_map.specs.declared.choice.Choice.{Choice}
 use Rattle.memory_map.specs.State.{MachineState}
 use Rattle.x86_syntax.specs.declared.instr.Instr.{Instr}
 use Rattle.x86_semantics.specs.declared.operation.Operation.{Operation}
-use Rattle.x86_semantics.specs.declared.operation.Operation.TheVariants.{Combine, Carry, Compare, Move, Convert, Lea, Exchange, Shift, MultiplyLong, Multiply, Divide, Jump, Goto, Loop, JumpIfNoCount, Call, Return, Push, Pop, Leave, Set, MoveIf, Flag, LoadStatus, StoreStatus, Element, Nothing, Stop}
+use Rattle.x86_semantics.specs.declared.operation.Operation.TheVariants.{Combine, Carry, Compare, Move, Convert, Lea, Exchange, Shift, DoubleShift, TestBit, FindBit, CompareExchange, ExchangeAdd, MultiplyLong, Multiply, Divide, Jump, Goto, Loop, JumpIfNoCount, Call, Return, Push, Pop, Leave, Set, MoveIf, Flag, LoadStatus, StoreStatus, Element, Nothing, Stop}
 use Rattle.x86_semantics.specs.Operands.{next_address}
 use Rattle.x86_semantics.specs.Operations.{operation_of}
 use Rattle.x86_semantics.specs.Does.{done, does, ended}
@@ -15,7 +15,9 @@ use Rattle.x86_lifter.proofs.ArithmeticMeaning.{combined, compared, carried-on}
 use Rattle.x86_lifter.proofs.MoveMeaning.{moved, converted, lea-done, exchanged, set-done, moved-if, pushed, popped-to, left}
 use Rattle.x86_lifter.proofs.FlowMeaning.{jumped, gone, looped, jumped-if-no-count, called, returned}
 use Rattle.x86_lifter.proofs.BitMeaning.{flag-changed, status-loaded, status-stored}
-use Rattle.x86_lifter.proofs.ShiftMeaning.{shifted}
+use Rattle.x86_lifter.proofs.ShiftMeaning.{shifted, double-shifted}
+use Rattle.x86_lifter.proofs.BitTestMeaning.{bit-tested, bit-found}
+use Rattle.x86_lifter.proofs.ExchangeMeaning.{compared-exchanged, exchanged-added}
 use Rattle.x86_lifter.proofs.ProductMeaning.{multiplied-long, multiplied, divided-by}
 use Rattle.x86_lifter.proofs.StringMeaning.{string-done}
 
@@ -29,6 +31,11 @@ means (Convert op w to from by) n c m = converted op w to from by (next_address 
 means (Lea to address) n c m = lea-done to address (next_address m.eip n) c m
 means (Exchange at w r) n c m = exchanged at w r (next_address m.eip n) c m
 means (Shift op rule w to count) n c m = shifted op rule w to count (next_address m.eip n) c m
+means (DoubleShift op other rule w to r count) n c m = double-shifted op other rule w to r count (next_address m.eip n) c m
+means (TestBit change w r index) n c m = bit-tested change w r index (next_address m.eip n) c m
+means (FindBit op w r from) n c m = bit-found op w r from (next_address m.eip n) c m
+means (CompareExchange at w r) n c m = compared-exchanged at w r (next_address m.eip n) c m
+means (ExchangeAdd at w r) n c m = exchanged-added at w r (next_address m.eip n) c m
 means (MultiplyLong high rule w from) n c m = multiplied-long high rule w from (next_address m.eip n) c m
 means (Multiply w r left right) n c m = multiplied w r left right (next_address m.eip n) c m
 means (Divide signed w by) n c m = divided-by signed w by (next_address m.eip n) c m

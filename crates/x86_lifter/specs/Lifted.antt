@@ -9,7 +9,7 @@ use Rattle.statement_lang.specs.declared.stmt.Test.TheVariants.{Condition, Zero}
 use Rattle.statement_lang.specs.declared.stmt.Stmt.{Stmt}
 use Rattle.statement_lang.specs.declared.stmt.Stmt.TheVariants.{Stop, Goto, Branch}
 use Rattle.x86_lifter.specs.Pieces.{places}
-use Rattle.x86_lifter.specs.Lists.{none, combining, carrying, comparing, moving, converting, plain, leaing, exchanging, setting, moving_if, pushing_list, popping, popping_into, leaving, resolved, going, calling, returning, looping, changing, loading_status, storing_status, shifting, multiplying_long, multiplying, dividing, string_list}
+use Rattle.x86_lifter.specs.Lists.{none, combining, carrying, comparing, moving, converting, plain, leaing, exchanging, setting, moving_if, pushing_list, popping, popping_into, leaving, resolved, going, calling, returning, looping, changing, loading_status, storing_status, shifting, double_shifting, testing_bit, finding_bit, comparing_exchange, adding_exchange, multiplying_long, multiplying, dividing, string_list}
 
 abbrev pub lifted : Operation → ℕ → ℕ → List Stmt
 lifted (operations.Combine op rule w to from) at n = places to from ++ combining op rule w to from (next_address at n)
@@ -20,6 +20,11 @@ lifted (operations.Convert op w to from by) at n = places to from ++ converting 
 lifted (operations.Lea to address) at n = places to (plain address) ++ leaing to (next_address at n)
 lifted (operations.Exchange place w r) at n = places place none ++ exchanging place w r (next_address at n)
 lifted (operations.Shift op rule w to count) at n = places to count ++ shifting op rule w to count (next_address at n)
+lifted (operations.DoubleShift op other rule w to r count) at n = places to count ++ double_shifting op other rule w to r count (next_address at n)
+lifted (operations.TestBit change w r index) at n = places index none ++ testing_bit change w r index (next_address at n)
+lifted (operations.FindBit op w r from) at n = places from none ++ finding_bit op w r from (next_address at n)
+lifted (operations.CompareExchange place w r) at n = places place none ++ comparing_exchange place w r (next_address at n)
+lifted (operations.ExchangeAdd place w r) at n = places place none ++ adding_exchange place w r (next_address at n)
 lifted (operations.MultiplyLong high rule w from) at n = places from none ++ multiplying_long high rule w from (next_address at n)
 lifted (operations.Multiply w r left right) at n = places left right ++ multiplying w r left right (next_address at n)
 lifted (operations.Divide signed w by) at n = places by none ++ dividing signed w by (next_address at n)

@@ -4,7 +4,7 @@ use Rattle.std.specs.Int.{cast_unsigned, w32}
 use Rattle.bit_words.specs.declared.width.Width.{Width}
 use Rattle.bit_words.specs.declared.width.Width.TheVariants.{B8, B32}
 use Rattle.bit_words.specs.declared.op.Op.{Op}
-use Rattle.bit_words.specs.declared.op.Op.TheVariants.{Add, Sub, And, Mul, Eq, Ult}
+use Rattle.bit_words.specs.declared.op.Op.TheVariants.{Add, Sub, And, Or, Xor, Not, Mul, Shl, Eq, Ult}
 use Rattle.bit_words.specs.Width.{bits_of, bytes_of}
 use Rattle.x86_syntax.specs.declared.instr.Address.{Address}
 use Rattle.x86_syntax.specs.declared.instr.Cond.{Cond}
@@ -15,24 +15,27 @@ use Rattle.x86_syntax.specs.declared.instr.Repeat.TheVariants as repeats
 use Rattle.x86_syntax.specs.declared.instr.Operand.{Operand}
 use Rattle.x86_syntax.specs.declared.instr.Operand.TheVariants as operands
 use Rattle.x86_semantics.specs.declared.flag_rule.FlagRule.{FlagRule}
-use Rattle.x86_semantics.specs.declared.flag_rule.FlagRule.TheVariants.{Difference, SignedProduct, Status}
+use Rattle.x86_semantics.specs.declared.flag_rule.FlagRule.TheVariants.{Sum, Difference, SignedProduct, BitTest, BitScan, Status}
 use Rattle.x86_semantics.specs.declared.operation.Looping.{Looping}
 use Rattle.x86_semantics.specs.declared.operation.Looping.TheVariants.{Counted, Equal, NotEqual}
+use Rattle.x86_semantics.specs.declared.operation.BitChange.{BitChange}
+use Rattle.x86_semantics.specs.declared.operation.BitChange.TheVariants.{KeepBit, SetBit, ClearBit, FlipBit}
 use Rattle.x86_semantics.specs.declared.operation.FlagChange.{FlagChange}
 use Rattle.x86_semantics.specs.declared.operation.FlagChange.TheVariants as changes
 use Rattle.x86_semantics.specs.declared.operation.StringKind.{StringKind}
 use Rattle.x86_semantics.specs.declared.operation.StringKind.TheVariants as kinds
 use Rattle.x86_semantics.specs.Registers.{EAX, ECX, ESP, EBP, ESI, EDI, AH, upper_register}
 use Rattle.x86_semantics.specs.Operands.{branch_target}
+use Rattle.x86_semantics.specs.Exchanges.{is_register_numbered}
 use Rattle.x86_semantics.specs.FlagRules.{free_of, carry_flag, overflow_flag, status_flags}
 use Rattle.statement_lang.specs.declared.stmt.Source.{Source}
 use Rattle.statement_lang.specs.declared.stmt.Source.TheVariants.{Register, Temp, Number, Base}
 use Rattle.statement_lang.specs.declared.stmt.Test.{Test}
 use Rattle.statement_lang.specs.declared.stmt.Test.TheVariants.{Condition, Zero, Flag}
 use Rattle.statement_lang.specs.declared.stmt.Stmt.{Stmt}
-use Rattle.statement_lang.specs.declared.stmt.Stmt.TheVariants.{Put, Copy, SetFlags, SetFlag, Load, Store, FreeFlags, Divide, SkipUnless, Goto, Branch}
+use Rattle.statement_lang.specs.declared.stmt.Stmt.TheVariants.{Put, Copy, SetFlags, SetFlag, Load, Store, Choose, FreeFlags, Divide, SkipUnless, Goto, Branch}
 use Rattle.bit_words.specs.declared.flags.Flags.{Flags as FlagSet}
-use Rattle.x86_lifter.specs.Pieces.{base_source, index_source, address_from, fetching, keeping, fetching_register, keeping_register, ending}
+use Rattle.x86_lifter.specs.Pieces.{base_source, index_source, address_from, nothing, fetching, keeping, fetching_register, keeping_register, ending}
 
 -- an operand that is not there
 abbrev pub none : Operand
@@ -191,6 +194,15 @@ storing_status next = fetching_register B8 AH 2 ∷ SetFlags Status B8 (Temp 2) 
 abbrev pub freeing : Op → ℕ → FlagSet → List Stmt → List Stmt
 freeing op n which rest = Put (Temp 5) op B32 (Temp 3) (Number n) ∷ SkipUnless (Zero (Temp 5)) 1 ∷ FreeFlags which ∷ rest
 
+-- the flags of a shift by the count in the temporary 3, those of a set free past the width, and the next instruction
+abbrev pub shift_ending : FlagRule → Width → FlagSet → ℕ → List Stmt
+shift_ending rule w past next =
+    Put (Temp 5) Eq B32 (Temp 3) (Number 0)
+    ∷ SkipUnless (Zero (Temp 5)) 8
+    ∷ SetFlags rule w (Temp 2) (Temp 3) (Temp 4)
+    ∷ FreeFlags (free_of rule)
+    ∷ freeing Eq 1 overflow_flag (freeing Ult (bits_of w) past (Goto (Number next) ∷ []))
+
 abbrev pub shifting : Op → FlagRule → Width → Operand → Operand → ℕ → List Stmt
 shifting op rule w to count next =
     fetching to 0 2
@@ -198,11 +210,98 @@ shifting op rule w to count next =
     ∷ Put (Temp 3) And B32 (Temp 3) (Number 31)
     ∷ Put (Temp 4) op w (Temp 2) (Temp 3)
     ∷ keeping to 0 4
-    ∷ Put (Temp 5) Eq B32 (Temp 3) (Number 0)
-    ∷ SkipUnless (Zero (Temp 5)) 8
-    ∷ SetFlags rule w (Temp 2) (Temp 3) (Temp 4)
-    ∷ FreeFlags (free_of rule)
-    ∷ freeing Eq 1 overflow_flag (freeing Ult (bits_of w) carry_flag (Goto (Number next) ∷ []))
+    ∷ shift_ending rule w carry_flag next
+
+abbrev pub double_shifting : Op → Op → FlagRule → Width → Operand → ℕ → Operand → ℕ → List Stmt
+double_shifting op other rule w to register count next =
+    fetching to 0 2
+    ∷ fetching count 1 3
+    ∷ fetching_register w register 5
+    ∷ Put (Temp 3) And B32 (Temp 3) (Number 31)
+    ∷ Put (Temp 4) op w (Temp 2) (Temp 3)
+    ∷ Put (Temp 6) Sub B32 (Number (bits_of w)) (Temp 3)
+    ∷ Put (Temp 5) other w (Temp 5) (Temp 6)
+    ∷ Put (Temp 4) Or w (Temp 4) (Temp 5)
+    ∷ Put (Temp 5) Ult B32 (Temp 3) (Number (bits_of w))
+    ∷ SkipUnless (Zero (Temp 5)) 1
+    ∷ Choose (Temp 4) w
+    ∷ keeping to 0 4
+    ∷ shift_ending rule w status_flags next
+
+-- ---- bits tested and found
+
+-- the bit in the temporary 4 turned into all others, for BTR
+abbrev pub turning_bit : BitChange → Width → Stmt
+turning_bit ClearBit w = Put (Temp 4) Not w (Temp 4) (Number 0)
+turning_bit _ w = nothing
+
+-- the temporary 3 with it set, cleared or flipped
+abbrev pub changing_bit : BitChange → Width → Stmt
+changing_bit KeepBit w = nothing
+changing_bit SetBit w = Put (Temp 4) Or w (Temp 3) (Temp 4)
+changing_bit ClearBit w = Put (Temp 4) And w (Temp 3) (Temp 4)
+changing_bit FlipBit w = Put (Temp 4) Xor w (Temp 3) (Temp 4)
+
+-- BT writes none
+abbrev pub keeping_bit : BitChange → Width → ℕ → Stmt
+keeping_bit KeepBit w register = nothing
+keeping_bit _ w register = keeping_register w register 4
+
+abbrev pub testing_bit : BitChange → Width → ℕ → Operand → ℕ → List Stmt
+testing_bit change w register index next =
+    fetching index 0 2
+    ∷ fetching_register w register 3
+    ∷ Put (Temp 5) And B32 (Temp 2) (Number (bits_of w - 1))
+    ∷ Put (Temp 4) Shl w (Number 1) (Temp 5)
+    ∷ turning_bit change w
+    ∷ changing_bit change w
+    ∷ keeping_bit change w register
+    ∷ SetFlags BitTest w (Temp 3) (Temp 2) (Number 0)
+    ∷ FreeFlags (free_of BitTest)
+    ∷ Goto (Number next)
+    ∷ []
+
+abbrev pub finding_bit : Op → Width → ℕ → Operand → ℕ → List Stmt
+finding_bit op w register from next =
+    fetching from 0 2
+    ∷ Choose (Temp 4) w
+    ∷ Put (Temp 5) Eq w (Temp 2) (Number 0)
+    ∷ SkipUnless (Zero (Temp 5)) 1
+    ∷ Put (Temp 4) op w (Temp 2) (Number 0)
+    ∷ keeping_register w register 4
+    ∷ SetFlags BitScan w (Temp 2) (Number 0) (Temp 4)
+    ∷ FreeFlags (free_of BitScan)
+    ∷ Goto (Number next)
+    ∷ []
+
+-- ---- exchanges with a comparison or a sum
+
+abbrev pub comparing_exchange : Operand → Width → ℕ → ℕ → List Stmt
+comparing_exchange place w register next =
+    fetching place 0 2
+    ∷ fetching_register w EAX 3
+    ∷ fetching_register w register 4
+    ∷ Put (Temp 5) Sub w (Temp 3) (Temp 2)
+    ∷ Put (Temp 6) Eq w (Temp 3) (Temp 2)
+    ∷ SkipUnless (Zero (Temp 6)) 1
+    ∷ Copy (Temp 4) (Temp 2)
+    ∷ keeping place 0 4
+    ∷ SkipUnless (Zero (Temp 6)) 1
+    ∷ keeping_register w EAX 2
+    ∷ ending Difference w 3 2 5 next
+
+-- the temporary that the register takes: the place's old value, or the sum
+abbrev pub added_source : ℕ → Operand → ℕ
+added_source register place = if is_register_numbered register place then 4 else 2
+
+abbrev pub adding_exchange : Operand → Width → ℕ → ℕ → List Stmt
+adding_exchange place w register next =
+    fetching place 0 2
+    ∷ fetching_register w register 3
+    ∷ Put (Temp 4) Add w (Temp 2) (Temp 3)
+    ∷ keeping place 0 4
+    ∷ keeping_register w register (added_source register place)
+    ∷ ending Sum w 2 3 4 next
 
 -- ---- products and quotients
 

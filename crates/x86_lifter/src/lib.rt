@@ -4,6 +4,9 @@
 #![tactic(auto)]
 
 mod arithmetic;
+mod bit_tests;
+mod double_shifts;
+mod exchanges;
 mod flag_bits;
 mod flow;
 mod lifting;

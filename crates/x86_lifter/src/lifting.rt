@@ -7,6 +7,9 @@ ghost use Rattle.statement_lang.specs.Run.{run};
 ghost use Rattle.x86_lifter.specs.Lifted.{lifted};
 
 use crate::arithmetic::{carry, combine, compare};
+use crate::bit_tests::{find_bit, test_bit};
+use crate::double_shifts::double_shift;
+use crate::exchanges::{compare_exchange, exchange_add};
 use crate::flag_bits::{change_flag, load_status, store_status};
 use crate::flow::{branch, go, loop_to, resolved};
 use crate::moves::{convert, exchange, load_address, move_if, move_value, set};
@@ -72,6 +75,31 @@ fn lift_operation(operation: Operation, at: u32, len: u8) -> Stmts
             to,
             count,
         } => shift(op, rule, w, to, count, next),
+        Operation::DoubleShift {
+            op,
+            other,
+            rule,
+            w,
+            to,
+            register,
+            count,
+        } => double_shift(op, other, rule, w, to, register, count, next),
+        Operation::TestBit {
+            change,
+            w,
+            register,
+            index,
+        } => test_bit(change, w, register, index, next),
+        Operation::FindBit {
+            op,
+            w,
+            register,
+            from,
+        } => find_bit(op, w, register, from, next),
+        Operation::CompareExchange { place, w, register } => {
+            compare_exchange(place, w, register, next)
+        }
+        Operation::ExchangeAdd { place, w, register } => exchange_add(place, w, register, next),
         Operation::MultiplyLong {
             high,
             rule,

@@ -1,9 +1,10 @@
 ghost use Rattle.std.specs.Prelude.{◌≡◌, ◌≤◌, ◌+◌, ◌++◌, length};
 ghost use Rattle.arrayvec.specs.ArrayVec.{array_vec_len};
 ghost use Rattle.x86_lifter.specs.Pieces.{base_source, fetching, fetching_register, index_source, keeping, keeping_register, nothing, placing, places, scale_of, address_from};
-ghost use Rattle.x86_semantics.specs.FlagRules.{free_of};
+ghost use Rattle.x86_semantics.specs.FlagRules.{free_of, status_flags};
 
-use bit_words::{Op, Width};
+use bit_words::{Flags, Op, Width};
+use bitflags::Flags as _;
 use statement_lang::{Source, Stmt, Stmts, Test};
 use x86_semantics::{FlagRule, byte_part, put_byte_part};
 use x86_syntax::{Address, Operand};
@@ -184,7 +185,8 @@ pub fn keep_register(w: Width, r: u8, t: u8) -> Stmt
     }
 }
 
-fn nothing() -> Stmt
+/// The statement that changes nothing.
+pub fn nothing() -> Stmt
     ensures { result ≡ nothing }
 {
     Stmt::SkipUnless {
@@ -221,11 +223,40 @@ pub fn set_flags(rule: FlagRule, w: Width, a: u8, b: u8, r: u8) -> Stmt
     }
 }
 
+/// The flags of a set, free.
+pub fn free_flags(which: Flags) -> Stmt
+    ensures { result ≡ Stmt.FreeFlags which }
+{
+    Stmt::FreeFlags { which }
+}
+
+/// The status flags, which are all but DF.
+pub fn status_flags() -> Flags
+    ensures { result ≡ status_flags }
+{
+    Flags::CARRY
+        .union(Flags::PARITY)
+        .union(Flags::ADJUST)
+        .union(Flags::ZERO)
+        .union(Flags::SIGN)
+        .union(Flags::OVERFLOW)
+}
+
 /// The flags that a rule leaves free.
 pub fn free(rule: FlagRule) -> Stmt
     ensures { result ≡ Stmt.FreeFlags (free_of rule) }
 {
     Stmt::FreeFlags { which: rule.free() }
+}
+
+/// A free number of a width into a temporary.
+pub fn choose(t: u8, w: Width) -> Stmt
+    ensures { result ≡ Stmt.Choose (Source.Temp t) w }
+{
+    Stmt::Choose {
+        to: Source::Temp(t),
+        w,
+    }
 }
 
 /// The statement that puts EIP at an address.

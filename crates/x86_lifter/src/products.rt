@@ -1,14 +1,13 @@
 ghost use Rattle.std.specs.Prelude.{◌≡◌, ◌++◌};
-ghost use Rattle.x86_semantics.specs.FlagRules.{status_flags};
 ghost use Rattle.x86_lifter.specs.Pieces.{places};
 ghost use Rattle.x86_lifter.specs.Lists.{dividing, multiplying, multiplying_long, none};
 
 use crate::moves::none;
 use crate::pieces::{
-    behind_places, fetch, fetch_register, free, go_to, keep_register, put, set_flags,
+    behind_places, fetch, fetch_register, free, free_flags, go_to, keep_register, put, set_flags,
+    status_flags,
 };
-use bit_words::{Flags, Op, Width};
-use bitflags::Flags as _;
+use bit_words::{Op, Width};
 use statement_lang::{Source, Stmt, Stmts};
 use x86_semantics::{FlagRule, upper_register};
 use x86_syntax::Operand;
@@ -49,17 +48,6 @@ pub fn multiply(w: Width, register: u8, left: Operand, right: Operand, next: u32
     behind_places(left, right, &list)
 }
 
-fn status_flags() -> Flags
-    ensures { result ≡ status_flags }
-{
-    Flags::CARRY
-        .union(Flags::PARITY)
-        .union(Flags::ADJUST)
-        .union(Flags::ZERO)
-        .union(Flags::SIGN)
-        .union(Flags::OVERFLOW)
-}
-
 /// DIV, IDIV.
 pub fn divide(signed: bool, w: Width, by: Operand, next: u32) -> Stmts
     ensures { result.items ≡ places by none ++ dividing signed w by next }
@@ -71,9 +59,7 @@ pub fn divide(signed: bool, w: Width, by: Operand, next: u32) -> Stmts
             w,
             by: Source::Temp(2),
         },
-        Stmt::FreeFlags {
-            which: status_flags(),
-        },
+        free_flags(status_flags()),
         go_to(next),
     ];
     behind_places(by, none(), &list)

@@ -2,21 +2,23 @@ ghost use Rattle.std.specs.Prelude.{◌≡◌, ◌++◌};
 ghost use Rattle.x86_lifter.specs.Pieces.{places};
 ghost use Rattle.x86_lifter.specs.Lists.{shifting};
 
-use crate::pieces::{behind_places, fetch, free, go_to, keep, put, set_flags, skip_unless};
+use crate::pieces::{
+    behind_places, fetch, free, free_flags, go_to, keep, put, set_flags, skip_unless,
+};
 use bit_words::{Flags, Op, Width};
 use statement_lang::{Source, Stmt, Stmts, Test};
 use x86_semantics::FlagRule;
 use x86_syntax::Operand;
 
-// An operator at the count, which is the temporary 3, and a number, into a temporary.
-fn of_count(t: u8, op: Op, n: u32) -> Stmt
+/// An operator at the count, which is the temporary 3, and a number, into a temporary.
+pub fn of_count(t: u8, op: Op, n: u32) -> Stmt
     ensures { result ≡ Stmt.Put (Source.Temp t) op Width.B32 (Source.Temp 3) (Source.Number n) }
 {
     put(t, op, Width::B32, Source::Temp(3), Source::Number(n))
 }
 
-// Passes over statements where the temporary 5 is not 0.
-fn unless_zero(count: u8) -> Stmt
+/// Passes over statements where the temporary 5 is not 0.
+pub fn unless_zero(count: u8) -> Stmt
     ensures { result ≡ Stmt.SkipUnless (Test.Zero (Source.Temp 5)) count }
 {
     skip_unless(Test::Zero(Source::Temp(5)), count)
@@ -38,14 +40,10 @@ pub fn shift(op: Op, rule: FlagRule, w: Width, to: Operand, count: Operand, next
         free(rule),
         of_count(5, Op::Eq, 1),
         unless_zero(1),
-        Stmt::FreeFlags {
-            which: Flags::OVERFLOW,
-        },
+        free_flags(Flags::OVERFLOW),
         of_count(5, Op::Ult, w.bits()),
         unless_zero(1),
-        Stmt::FreeFlags {
-            which: Flags::CARRY,
-        },
+        free_flags(Flags::CARRY),
         go_to(next),
     ];
     behind_places(to, count, &list)

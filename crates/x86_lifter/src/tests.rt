@@ -12,7 +12,7 @@ use x86_syntax::Mnemonic;
 
 /// Single steps: the instruction's bytes at the address 08048000, what is set before it, and what has changed after it,
 /// or the fault. EIP goes to the next instruction unless it is told. All numbers are hexadecimal: a register or EIP, `f`
-/// for the flags (CF PF AF ZF SF OF DF from bit 0 on), `c` for those of the choice, and the word at an address.
+/// for the flags (CF PF AF ZF SF OF DF from bit 0 on), `c` for those of the choice and `x` for its EAX, and the word at an address.
 /// What is not set is 0, but ESP is 00100080. Mapped are the stack, 00100000 to 001000FF, data, 10000000 to 100000FF,
 /// and 40 bytes at 20000000 that may not be written; FS has the base 10000040, and GS 10000080.
 const STEPS: &str = "\
@@ -299,7 +299,107 @@ A7|esi=0 edi=10000000|! Read
 A7|esi=10000000 edi=0|! Read
 F3 AB|ecx=1 edi=0|! Write
 F3 A5|ecx=0 esi=0 edi=0|
-F0 01 03|ebx=10000010 10000010=1 eax=2 f=0|10000010=3 f=2";
+F0 01 03|ebx=10000010 10000010=1 eax=2 f=0|10000010=3 f=2
+0F A4 C8 04|eax=12345678 ecx=9ABCDEF0 f=0|eax=23456789 f=1
+0F A4 C8 04|eax=12345678 ecx=9ABCDEF0 f=0 c=24|eax=23456789 f=25
+0F A4 C8 00|eax=80000001 ecx=FFFFFFFF f=3F|
+0F A4 C8 20|eax=80000001 ecx=5 f=3F|
+0F A4 C8 01|eax=40000000 ecx=80000000 f=0|eax=80000001 f=30
+0F A4 C8 01|eax=80000000 ecx=0 f=0|eax=0 f=2B
+0F A4 C8 1F|eax=1 ecx=FFFFFFFE f=0|eax=FFFFFFFF f=12
+0F A4 C0 08|eax=12345678 f=0|eax=34567812 f=2
+0F A5 D0|eax=1 edx=80000000 ecx=21 f=0|eax=3 f=2
+0F A5 D0|eax=1 edx=5 ecx=20 f=3F|
+0F A5 C1|eax=F0000000 ecx=4 f=0|ecx=4F f=0
+0F A4 0D 00 00 00 10 10|ecx=ABCD1234 10000000=11112222 f=0|10000000=2222ABCD f=1
+0F A4 0D 00 00 00 10 20|ecx=9 10000000=5 f=3F|
+66 0F A4 C8 04|eax=AAAA1234 ecx=BBBBF000 f=0|eax=AAAA234F f=1
+66 0F A4 C8 0F|eax=3 ecx=FFFE f=0|eax=FFFF f=13
+66 0F A4 C8 01|eax=8000 ecx=8000 f=0|eax=1 f=21
+66 0F A4 C8 10|eax=AAAA1234 ecx=5 f=0 c=2A x=12348765|eax=AAAA8765 f=2A
+66 0F A4 C8 1F|eax=AAAA1234 ecx=5 f=7F|eax=AAAA0000 f=40
+66 0F A5 C8|eax=1111 ecx=10 f=3F c=15 x=FFFF|eax=FFFF f=15
+66 0F A4 0D 00 00 00 10 11|ecx=1 10000000=55556666 f=0 c=3F x=9999|10000000=55559999 f=3F
+0F AC C8 04|eax=12345678 ecx=9ABCDEF0 f=0|eax=1234567 f=1
+0F AC C8 01|eax=1 ecx=1 f=0|eax=80000000 f=33
+0F AC C8 01|eax=80000000 ecx=0 f=0|eax=40000000 f=22
+0F AC C8 01|eax=80000000 ecx=1 f=20|eax=C0000000 f=12
+0F AC C8 00|eax=1 ecx=2 f=3F|
+0F AC C8 1F|eax=80000000 ecx=0 f=0|eax=1 f=0
+0F AD D0|eax=10 edx=3 ecx=4 f=0 c=4|eax=30000001 f=4
+66 0F AC C8 08|eax=AAAA1280 ecx=34 f=0|eax=AAAA3412 f=3
+66 0F AC C8 10|eax=AAAA1280 ecx=34 f=0 c=1 x=1|eax=AAAA0001 f=1
+66 0F AD C8|eax=F ecx=30 f=3F|eax=0 f=0
+66 0F AD C8|eax=F ecx=40 f=3F|
+64 0F AC 0D 10 00 00 00 08|ecx=55 10000050=11223344 f=0|10000050=55112233 f=2
+0F A3 C8|eax=8 ecx=3 f=0|f=1
+0F A3 C8|eax=8 ecx=23 f=8 c=36|f=3F
+0F A3 C8|eax=8 ecx=2 f=3F|f=8
+66 0F A3 C8|eax=18000 ecx=1F f=0|f=1
+66 0F A3 C8|eax=18000 ecx=10 f=1|f=0
+0F BA E0 1F|eax=80000000 f=40 c=9|f=41
+0F BA E0 3F|eax=80000000 f=0|f=1
+66 0F BA E0 1F|eax=80000000 f=1|f=0
+0F AB C8|eax=1 ecx=4 f=0|eax=11 f=0
+0F AB C8|eax=11 ecx=4 f=0|f=1
+0F AB C0|eax=5 f=0|eax=25 f=0
+0F BA E8 1F|eax=0 f=0|eax=80000000 f=0
+66 0F AB C8|eax=AAAA0000 ecx=F f=8|eax=AAAA8000 f=8
+66 0F BA E8 12|eax=AAAA0000 f=0|eax=AAAA0004 f=0
+0F B3 C8|eax=FF ecx=7 f=0|eax=7F f=1
+0F B3 C8|eax=7F ecx=27 f=1|f=0
+0F BA F0 00|eax=FFFFFFFF f=0|eax=FFFFFFFE f=1
+66 0F BA F1 0F|ecx=1234FFFF f=0 c=10|ecx=12347FFF f=11
+0F BB C8|eax=0 ecx=1F f=0|eax=80000000 f=0
+0F BB C8|eax=80000000 ecx=1F f=0|eax=0 f=1
+66 0F BB C8|eax=FFFF0001 ecx=30 f=0 c=20|eax=FFFF0000 f=21
+0F BA F8 21|eax=2 f=0|eax=0 f=1
+0F BA FC 05|f=0|esp=1000A0
+0F BC C1|ecx=50 f=0|eax=4
+0F BC C1|ecx=80000000 f=8 c=37|eax=1F f=37
+0F BC C1|eax=7 ecx=0 f=0 x=DEADBEEF|eax=DEADBEEF f=8
+66 0F BC C1|eax=AAAA0000 ecx=10100 f=8|eax=AAAA0008 f=0
+66 0F BC C1|eax=AAAA0000 ecx=10000 f=0 x=12345678|eax=AAAA5678 f=8
+0F BC 05 00 00 00 10|10000000=C f=0|eax=2
+0F BC C0|eax=8 f=0|eax=3
+0F BD C1|ecx=50 f=0|eax=6
+0F BD C1|ecx=FFFFFFFF f=8 c=8|eax=1F f=0
+0F BD C1|eax=7 ecx=0 f=3F c=1 x=5|eax=5 f=9
+66 0F BD C1|eax=AAAA0000 ecx=F1234 f=0|eax=AAAA000C
+64 0F BD 05 10 00 00 00|10000050=100 f=0|eax=8
+0F B1 D1|eax=5 ecx=5 edx=7 f=0|ecx=7 f=A
+0F B1 D1|eax=3 ecx=5 edx=7 f=0|eax=5 f=15
+0F B1 0D 00 00 00 10|eax=5 ecx=9 10000000=5 f=0|10000000=9 f=A
+0F B1 0D 00 00 00 10|eax=6 ecx=9 10000000=5 f=0|eax=5
+0F B0 CA|eax=11223344 ecx=99 edx=44 f=0|edx=99 f=A
+0F B0 CA|eax=11223345 ecx=99 edx=44 f=0|eax=11223344
+0F B0 CC|eax=1234 ecx=9 f=0|eax=1212 f=2
+0F B0 0D 10 00 00 10|eax=FF ecx=12 10000010=112233FF f=0|10000010=11223312 f=A
+66 0F B1 D1|eax=AAAA8000 ecx=BBBB8000 edx=1 f=0|ecx=BBBB0001 f=A
+66 0F B1 D1|eax=AAAA8000 ecx=BBBB0001 edx=7 f=0|eax=AAAA0001 f=26
+0F B1 C8|eax=5 ecx=7 f=0|eax=7 f=A
+0F B1 C1|eax=5 ecx=5 f=0|f=A
+0F B1 C1|eax=5 ecx=6 f=0|eax=6 f=17
+F0 0F B1 0B|eax=1 ebx=10000010 ecx=2 10000010=1 f=40|10000010=2 f=4A
+0F C1 C8|eax=5 ecx=3 f=0|eax=8 ecx=5
+0F C1 C8|eax=FFFFFFFF ecx=1 f=0|eax=0 ecx=FFFFFFFF f=F
+0F C1 C0|eax=40000000 f=0|eax=80000000 f=32
+0F C0 E0|eax=1234 f=0|eax=3446
+0F C0 C0|eax=1281 f=0|eax=1202 f=21
+66 0F C1 C8|eax=AAAA7FFF ecx=BBBB0001 f=0|eax=AAAA8000 ecx=BBBB7FFF f=36
+66 0F C1 C0|eax=AAAA0008 f=0|eax=AAAA0010 f=4
+0F C1 0D 00 00 00 10|ecx=1 10000000=11223344 f=0|10000000=11223345 ecx=11223344
+0F C1 09|ecx=10000000 10000000=5 f=0|10000000=10000005 ecx=5 f=2
+F0 0F C0 0D 10 00 00 10|ecx=2 10000010=11223301 f=0|10000010=11223303 ecx=1 f=2
+0F A4 08 00|eax=20000000|! Write
+0F AC 08 04|eax=30000000|! Read
+0F BC 00|eax=0|! Read
+66 0F BD 00|eax=100000FF|! Read
+0F B1 0B|eax=1 ebx=20000000|! Write
+0F B1 0B|eax=0 ebx=20000000 ecx=5|! Write
+0F B1 0B|ebx=30000000|! Read
+0F C1 08|eax=20000000 ecx=1|! Write
+0F C0 08|eax=0|! Read";
 
 fn bytes_of(alloc: Global, words: &str) -> Result<Vec<u8>, Fail> {
     let mut bytes = Vec::new(alloc);
@@ -309,10 +409,10 @@ fn bytes_of(alloc: Global, words: &str) -> Result<Vec<u8>, Fail> {
     Ok(bytes)
 }
 
-fn choice_of(alloc: Global, flags: u8) -> Choice {
+fn choice_of(alloc: Global, flags: u8, eax: u32) -> Choice {
     Choice {
         flags,
-        eax: 0,
+        eax,
         ecx: 0,
         edx: 0,
         base: 0,
@@ -375,7 +475,7 @@ fn register_number(name: &str) -> Option<u8> {
     None
 }
 
-// Sets what one word of a line says; the flags of a choice are no part of the state.
+// Sets what one word of a line says; what a choice has is no part of the state.
 fn set(cells: &mut Cells, word: &str) -> Result<(), Fail> {
     let (name, number) = word.split_once('=').ok_or("a setting")?;
     let value = u32::from_str_radix(number, 16)?;
@@ -385,7 +485,7 @@ fn set(cells: &mut Cells, word: &str) -> Result<(), Fail> {
         cells.go_to(value);
     } else if name == "f" {
         cells.set_flags(Flags::from_bits_retain(value.to_le_bytes()[0]));
-    } else if name != "c" {
+    } else if name != "c" && name != "x" {
         let at = u32::from_str_radix(name, 16)?;
         let stored = cells.store(Width::B32, at, value);
         stored.then_some(()).ok_or("a place that may be written")?;
@@ -404,6 +504,15 @@ fn choice_flags(words: &str) -> Result<u8, Fail> {
     for word in words.split_whitespace() {
         if let Some(number) = word.strip_prefix("c=") {
             return Ok(u8::from_str_radix(number, 16)?);
+        }
+    }
+    Ok(0)
+}
+
+fn choice_eax(words: &str) -> Result<u32, Fail> {
+    for word in words.split_whitespace() {
+        if let Some(number) = word.strip_prefix("x=") {
+            return Ok(u32::from_str_radix(number, 16)?);
         }
     }
     Ok(0)
@@ -455,7 +564,7 @@ fn check_step(rt: &impl Abort, alloc: Global, line: &str) -> Result<(), Fail> {
     let (words, rest) = line.split_once('|').ok_or("a line")?;
     let (before, after) = rest.split_once('|').ok_or("what comes after")?;
     let bytes = bytes_of(alloc, words)?;
-    let choice = choice_of(alloc, choice_flags(before)?);
+    let choice = choice_of(alloc, choice_flags(before)?, choice_eax(before)?);
     let mut is = start(alloc)?;
     set_all(&mut is, before)?;
     let mut wanted = start(alloc)?;

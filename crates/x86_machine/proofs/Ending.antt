@@ -13,7 +13,7 @@ use Rattle.x86_syntax.specs.declared.instr.Repeat.{Repeat}
 use Rattle.x86_syntax.specs.declared.instr.Repeat.TheVariants.{Once, Rep, Repe, Repne}
 use Rattle.x86_syntax.specs.declared.instr.Seg.{Seg}
 use Rattle.x86_semantics.specs.declared.operation.Operation.{Operation}
-use Rattle.x86_semantics.specs.declared.operation.Operation.TheVariants.{Combine, Carry, Compare, Move, Convert, Lea, Exchange, Shift, MultiplyLong, Multiply, Divide, Jump, Goto, Loop, JumpIfNoCount, Call, Return, Push, Pop, Leave, Set, MoveIf, Flag, LoadStatus, StoreStatus, Element, Nothing, Stop}
+use Rattle.x86_semantics.specs.declared.operation.Operation.TheVariants.{Combine, Carry, Compare, Move, Convert, Lea, Exchange, Shift, DoubleShift, TestBit, FindBit, CompareExchange, ExchangeAdd, MultiplyLong, Multiply, Divide, Jump, Goto, Loop, JumpIfNoCount, Call, Return, Push, Pop, Leave, Set, MoveIf, Flag, LoadStatus, StoreStatus, Element, Nothing, Stop}
 use Rattle.x86_semantics.specs.declared.operation.StringKind.{StringKind}
 use Rattle.x86_semantics.specs.declared.operation.StringKind.TheVariants as strings
 use Rattle.x86_semantics.specs.Condition.{is_met}
@@ -102,6 +102,12 @@ ends_by_fault (Lea to address) n choice m = writing_ends m to _ _ (λ p. tt)
 ends_by_fault (Exchange place w r) n choice m = last_reading_ends m place _ _ (λ a. writing_ends m place _ _ (λ p. tt))
 ends_by_fault (Shift op rule w to count) n choice m =
     reading_ends m to (operand m count) _ _ (λ a. last_reading_ends m count _ _ (λ v. writing_ends m to _ _ (λ p. tt)))
+ends_by_fault (DoubleShift op other rule w to r count) n choice m =
+    reading_ends m to (operand m count) _ _ (λ a. last_reading_ends m count _ _ (λ v. writing_ends m to _ _ (λ p. tt)))
+ends_by_fault (TestBit change w r index) n choice m = last_reading_ends m index _ _ (λ v. tt)
+ends_by_fault (FindBit op w r from) n choice m = last_reading_ends m from _ _ (λ b. tt)
+ends_by_fault (CompareExchange place w r) n choice m = last_reading_ends m place _ _ (λ a. writing_ends m place _ _ (λ p. tt))
+ends_by_fault (ExchangeAdd place w r) n choice m = last_reading_ends m place _ _ (λ a. writing_ends m place _ _ (λ p. tt))
 ends_by_fault (MultiplyLong high rule w from) n choice m = last_reading_ends m from _ _ (λ b. tt)
 ends_by_fault (Multiply w r left right) n choice m = reading_ends m left (operand m right) _ _ (λ a. last_reading_ends m right _ _ (λ b. tt))
 ends_by_fault (Divide signed w by) n choice m =

@@ -15,7 +15,7 @@ use Rattle.x86_syntax.specs.declared.instr.Repeat.{Repeat}
 use Rattle.x86_syntax.specs.declared.instr.Repeat.TheVariants.{Once}
 use Rattle.x86_syntax.specs.declared.instr.Seg.{Seg}
 use Rattle.x86_semantics.specs.declared.operation.Operation.{Operation}
-use Rattle.x86_semantics.specs.declared.operation.Operation.TheVariants.{Combine, Carry, Compare, Move, Convert, Lea, Exchange, Shift, MultiplyLong, Multiply, Divide, Goto, Call, Return, Push, Pop, Leave, Set, MoveIf, Element, Stop}
+use Rattle.x86_semantics.specs.declared.operation.Operation.TheVariants.{Combine, Carry, Compare, Move, Convert, Lea, Exchange, Shift, DoubleShift, TestBit, FindBit, CompareExchange, ExchangeAdd, MultiplyLong, Multiply, Divide, Goto, Call, Return, Push, Pop, Leave, Set, MoveIf, Element, Stop}
 use Rattle.x86_semantics.specs.declared.operation.StringKind.{StringKind}
 use Rattle.x86_semantics.specs.declared.operation.StringKind.TheVariants as strings
 use Rattle.x86_semantics.specs.Condition.{is_met}
@@ -94,6 +94,11 @@ reads (Move to from) m = operand m from
 reads (Convert op w to from by) m = operand m from
 reads (Exchange place w r) m = operand m place
 reads (Shift op rule w to count) m = operand m to ++ operand m count
+reads (DoubleShift op other rule w to r count) m = operand m to ++ operand m count
+reads (TestBit change w r index) m = operand m index
+reads (FindBit op w r from) m = operand m from
+reads (CompareExchange place w r) m = operand m place
+reads (ExchangeAdd place w r) m = operand m place
 reads (MultiplyLong high rule w from) m = operand m from
 reads (Multiply w r left right) m = operand m left ++ operand m right
 reads (Divide signed w by) m = operand m by
@@ -116,6 +121,9 @@ writes (Convert op w to from by) m = operand m to
 writes (Lea to address) m = operand m to
 writes (Exchange place w r) m = operand m place
 writes (Shift op rule w to count) m = operand m to
+writes (DoubleShift op other rule w to r count) m = operand m to
+writes (CompareExchange place w r) m = operand m place
+writes (ExchangeAdd place w r) m = operand m place
 writes (Call target) m = pushed m
 writes (Push from) m = pushed m
 writes (Pop to) m = operand (popped m) to

@@ -12,7 +12,7 @@ use Rattle.x86_syntax.specs.declared.instr.Operand.TheVariants.{Register, Number
 use Rattle.x86_semantics.specs.declared.operation.StringKind.{StringKind}
 use Rattle.x86_semantics.specs.declared.operation.StringKind.TheVariants as kinds
 use Rattle.x86_semantics.specs.declared.operation.Operation.{Operation}
-use Rattle.x86_semantics.specs.declared.operation.Operation.TheVariants.{Combine, Carry, Compare, Move, Convert, Lea, Exchange, Shift, MultiplyLong, Multiply, Divide, Jump, Goto, Loop, JumpIfNoCount, Call, Return, Push, Pop, Leave, Set, MoveIf, Flag, LoadStatus, StoreStatus, Element, Nothing, Stop}
+use Rattle.x86_semantics.specs.declared.operation.Operation.TheVariants.{Combine, Carry, Compare, Move, Convert, Lea, Exchange, Shift, DoubleShift, TestBit, FindBit, CompareExchange, ExchangeAdd, MultiplyLong, Multiply, Divide, Jump, Goto, Loop, JumpIfNoCount, Call, Return, Push, Pop, Leave, Set, MoveIf, Flag, LoadStatus, StoreStatus, Element, Nothing, Stop}
 use Rattle.x86_semantics.specs.Condition.{is_met}
 use Rattle.x86_semantics.specs.Memory.{word_at, stored}
 use Rattle.x86_semantics.specs.Registers.{ECX, register}
@@ -104,6 +104,11 @@ keeps (Convert op w to from by) n c m = reads m from _ (λ v. writes m to _ _ (�
 keeps (Lea to address) n c m = writes m to _ _ (λ p. next-keeps m _)
 keeps (Exchange at w r) n c m = reads m at _ (λ a. writes m at _ _ (λ p. next-keeps m _))
 keeps (Shift op rule w to count) n c m = reads m to _ (λ a. reads m count _ (λ v. writes m to _ _ (λ p. next-keeps m _)))
+keeps (DoubleShift op other rule w to r count) n c m = reads m to _ (λ a. reads m count _ (λ v. writes m to _ _ (λ p. next-keeps m _)))
+keeps (TestBit change w r index) n c m = reads m index _ (λ v. next-keeps m _)
+keeps (FindBit op w r from) n c m = reads m from _ (λ b. next-keeps m _)
+keeps (CompareExchange at w r) n c m = reads m at _ (λ a. writes m at _ _ (λ p. next-keeps m _))
+keeps (ExchangeAdd at w r) n c m = reads m at _ (λ a. writes m at _ _ (λ p. next-keeps m _))
 keeps (MultiplyLong high rule w from) n c m = reads m from _ (λ b. next-keeps m _)
 keeps (Multiply w r left right) n c m = reads m left _ (λ a. reads m right _ (λ b. next-keeps m _))
 keeps (Divide signed w by) n c m = reads m by _ (λ d. on-divided-keeps m (divided signed w d m) _ (λ p. next-keeps m _))

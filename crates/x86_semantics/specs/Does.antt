@@ -7,12 +7,14 @@ use Rattle.x86_syntax.specs.declared.instr.Instr.{Instr}
 use Rattle.x86_syntax.specs.declared.instr.Operand.{Operand}
 use Rattle.x86_syntax.specs.declared.instr.Operand.TheVariants.{Offset}
 use Rattle.x86_semantics.specs.declared.operation.Operation.{Operation}
-use Rattle.x86_semantics.specs.declared.operation.Operation.TheVariants.{Combine, Carry, Compare, Move, Convert, Lea, Exchange, Shift, MultiplyLong, Multiply, Divide, Jump, Goto, Loop, JumpIfNoCount, Call, Return, Push, Pop, Leave, Set, MoveIf, Flag, LoadStatus, StoreStatus, Element, Nothing, Stop}
+use Rattle.x86_semantics.specs.declared.operation.Operation.TheVariants.{Combine, Carry, Compare, Move, Convert, Lea, Exchange, Shift, DoubleShift, TestBit, FindBit, CompareExchange, ExchangeAdd, MultiplyLong, Multiply, Divide, Jump, Goto, Loop, JumpIfNoCount, Call, Return, Push, Pop, Leave, Set, MoveIf, Flag, LoadStatus, StoreStatus, Element, Nothing, Stop}
 use Rattle.x86_semantics.specs.Operands.{Ended, Next, Faulted, at_address, next_address}
 use Rattle.x86_semantics.specs.Operations.{operation_of}
 use Rattle.x86_semantics.specs.Arithmetic.{combine, carry, compare}
 use Rattle.x86_semantics.specs.Moves.{move, convert, lea, exchange, set, move_if, push, pop, leave}
-use Rattle.x86_semantics.specs.Shifts.{shift}
+use Rattle.x86_semantics.specs.Shifts.{shift, double_shift}
+use Rattle.x86_semantics.specs.BitTests.{test_bit, find_bit}
+use Rattle.x86_semantics.specs.Exchanges.{compare_exchange, exchange_add}
 use Rattle.x86_semantics.specs.Products.{multiply_long, multiply, divide}
 use Rattle.x86_semantics.specs.Flow.{jump, goto, loop, jump_if_no_count, call, return}
 use Rattle.x86_semantics.specs.Bits.{change_flag, load_status, store_status}
@@ -33,6 +35,11 @@ done (Convert op w to from by) n choice m = convert op w to from by (next_addres
 done (Lea to address) n choice m = lea to address (next_address m.eip n) m
 done (Exchange place w r) n choice m = exchange place w r (next_address m.eip n) m
 done (Shift op rule w to count) n choice m = shift op rule w to count (next_address m.eip n) choice m
+done (DoubleShift op other rule w to register count) n choice m = double_shift op other rule w to register count (next_address m.eip n) choice m
+done (TestBit change w register index) n choice m = test_bit change w register index (next_address m.eip n) choice m
+done (FindBit op w register from) n choice m = find_bit op w register from (next_address m.eip n) choice m
+done (CompareExchange place w register) n choice m = compare_exchange place w register (next_address m.eip n) choice m
+done (ExchangeAdd place w register) n choice m = exchange_add place w register (next_address m.eip n) choice m
 done (MultiplyLong high rule w from) n choice m = multiply_long high rule w from (next_address m.eip n) choice m
 done (Multiply w r left right) n choice m = multiply w r left right (next_address m.eip n) choice m
 done (Divide signed w by) n choice m = divide signed w by (next_address m.eip n) choice m

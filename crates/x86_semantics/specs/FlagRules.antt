@@ -9,7 +9,7 @@ use Rattle.bit_words.specs.Flags.{FlagBits, has_even_parity, sum_flags, differen
 use Rattle.memory_map.specs.State.{Flags}
 use Rattle.memory_map.specs.declared.choice.Choice.{Choice}
 use Rattle.x86_semantics.specs.declared.flag_rule.FlagRule.{FlagRule}
-use Rattle.x86_semantics.specs.declared.flag_rule.FlagRule.TheVariants.{Sum, SumWithCarry, Difference, DifferenceWithBorrow, Increment, Decrement, Negation, Logic, ShiftLeft, ShiftRight, ShiftRightSigned, RotateLeft, RotateRight, Product, SignedProduct, Status}
+use Rattle.x86_semantics.specs.declared.flag_rule.FlagRule.TheVariants.{Sum, SumWithCarry, Difference, DifferenceWithBorrow, Increment, Decrement, Negation, Logic, ShiftLeft, ShiftRight, ShiftRightSigned, ShiftRightDouble, RotateLeft, RotateRight, Product, SignedProduct, BitTest, BitScan, Status}
 
 -- the six status flags as computed, DF as it was
 abbrev pub with_status : FlagBits → Flags → Flags
@@ -38,13 +38,17 @@ of_result w r carry overflow f = record {
   direction = f.direction;
 }
 
--- SHL: CF is the last bit out at the top, OF tells at a count of 1 whether the top bit changed
+-- SHL and SHLD: CF is the last bit out at the top, OF tells at a count of 1 whether the top bit changed
 abbrev pub shift_left_flags : Width → ℕ → ℕ → ℕ → Flags → Flags
 shift_left_flags w a c r f = let carry = is_set (cut w a) (bits_of w - c) in of_result w r carry (xor (has_sign w (cut w r)) carry) f
 
--- SHR and SAR: CF is the last bit out at the bottom
+-- SHR, SAR and SHRD: CF is the last bit out at the bottom
 abbrev pub shift_right_flags : Width → ℕ → ℕ → ℕ → Bool → Flags → Flags
 shift_right_flags w a c r overflow f = of_result w r (is_set (cut w a) (c - 1)) overflow f
+
+-- whether the top bit of a word is another than that of its result
+abbrev pub changes_sign : Width → ℕ → ℕ → Bool
+changes_sign w a r = xor (has_sign w (cut w r)) (has_sign w (cut w a))
 
 -- ROL: CF is the bit that came to the bottom, OF whether it differs from the top bit
 abbrev pub rotate_left_flags : Width → ℕ → Flags → Flags
@@ -87,10 +91,13 @@ ruled Logic w a b r f = with_status (logic_flags w r) f
 ruled ShiftLeft w a b r f = unless_zero (b % 32) (shift_left_flags w a (b % 32) r f) f
 ruled ShiftRight w a b r f = unless_zero (b % 32) (shift_right_flags w a (b % 32) r (has_sign w (cut w a)) f) f
 ruled ShiftRightSigned w a b r f = unless_zero (b % 32) (shift_right_flags w a (b % 32) r false f) f
+ruled ShiftRightDouble w a b r f = unless_zero (b % 32) (shift_right_flags w a (b % 32) r (changes_sign w a r) f) f
 ruled RotateLeft w a b r f = unless_zero (b % 32) (rotate_left_flags w r f) f
 ruled RotateRight w a b r f = unless_zero (b % 32) (rotate_right_flags w r f) f
 ruled Product w a b r f = both_by (nat_le (2 ^ bits_of w) (cut w a * cut w b)) f
 ruled SignedProduct w a b r f = both_by (not (is_signed w (signed_of w a *ℤ signed_of w b))) f
+ruled BitTest w a b r f = record f { carry = is_set (cut w a) (b % bits_of w) }
+ruled BitScan w a b r f = record f { zero = cut w a == 0 }
 ruled Status w a b r f = by_status a f
 
 -- ---- free flags
@@ -111,6 +118,14 @@ overflow_flag = record { 0 = 32 }
 abbrev pub product_free : FlagSet
 product_free = record { 0 = 30 }
 
+-- PF, AF, SF and OF
+abbrev pub bit_test_free : FlagSet
+bit_test_free = record { 0 = 54 }
+
+-- all but ZF and DF
+abbrev pub bit_scan_free : FlagSet
+bit_scan_free = record { 0 = 55 }
+
 -- all but DF
 abbrev pub status_flags : FlagSet
 status_flags = record { 0 = 63 }
@@ -121,8 +136,11 @@ free_of Logic = adjust_flag
 free_of ShiftLeft = adjust_flag
 free_of ShiftRight = adjust_flag
 free_of ShiftRightSigned = adjust_flag
+free_of ShiftRightDouble = adjust_flag
 free_of Product = product_free
 free_of SignedProduct = product_free
+free_of BitTest = bit_test_free
+free_of BitScan = bit_scan_free
 free_of _ = no_flags
 
 -- the flags that a choice gives: CF PF AF ZF SF OF from bit 0 on

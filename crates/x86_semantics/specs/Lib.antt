@@ -8,6 +8,8 @@ pub mod Moves
 pub mod Flow
 pub mod Bits
 pub mod Shifts
+pub mod BitTests
+pub mod Exchanges
 pub mod Products
 pub mod Strings
 pub mod Widths

@@ -18,6 +18,8 @@ use Rattle.x86_semantics.specs.declared.operation.Looping.{Looping}
 use Rattle.x86_semantics.specs.declared.operation.Looping.TheVariants.{Counted, Equal, NotEqual}
 use Rattle.x86_semantics.specs.declared.operation.StringKind.{StringKind}
 use Rattle.x86_semantics.specs.declared.operation.StringKind.TheVariants as kinds
+use Rattle.x86_semantics.specs.declared.operation.BitChange.{BitChange}
+use Rattle.x86_semantics.specs.declared.operation.BitChange.TheVariants.{KeepBit, SetBit, ClearBit, FlipBit}
 use Rattle.x86_semantics.specs.declared.operation.FlagChange.TheVariants.{FlipCarry, ClearCarry, SetCarry, ClearDirection, SetDirection}
 use Rattle.x86_semantics.specs.declared.operation.Operation.{Operation}
 use Rattle.x86_semantics.specs.declared.operation.Operation.TheVariants as does
@@ -124,6 +126,22 @@ abbrev pub exchange_of : Operand → Operand → Operation
 exchange_of place (Register w r) = does.Exchange place w r
 exchange_of place _ = unlisted
 
+abbrev pub compare_exchange_of : Operand → Operand → Operation
+compare_exchange_of place (Register w r) = does.CompareExchange place w r
+compare_exchange_of place _ = unlisted
+
+abbrev pub exchange_add_of : Operand → Operand → Operation
+exchange_add_of place (Register w r) = does.ExchangeAdd place w r
+exchange_add_of place _ = unlisted
+
+abbrev pub bit_test_of : BitChange → Operand → Operand → Operation
+bit_test_of change (Register w r) index = does.TestBit change w r index
+bit_test_of change _ index = unlisted
+
+abbrev pub bit_scan_of : Op → Operand → Operand → Operation
+bit_scan_of op (Register w r) from = does.FindBit op w r from
+bit_scan_of op _ from = unlisted
+
 abbrev pub product_of : Operand → Operand → Operand → Operation
 product_of (Register w r) left right = does.Multiply w r left right
 product_of to left right = unlisted
@@ -149,13 +167,27 @@ of_two names.Sar w a b = does.Shift ops.Sar rules.ShiftRightSigned w a b
 of_two names.Rol w a b = does.Shift ops.Rol rules.RotateLeft w a b
 of_two names.Ror w a b = does.Shift ops.Ror rules.RotateRight w a b
 of_two names.Imul w a b = product_of a a b
+of_two names.Bt w a b = bit_test_of KeepBit a b
+of_two names.Bts w a b = bit_test_of SetBit a b
+of_two names.Btr w a b = bit_test_of ClearBit a b
+of_two names.Btc w a b = bit_test_of FlipBit a b
+of_two names.Bsf w a b = bit_scan_of ops.LowBit a b
+of_two names.Bsr w a b = bit_scan_of ops.HighBit a b
+of_two names.Cmpxchg w a b = compare_exchange_of a b
+of_two names.Xadd w a b = exchange_add_of a b
 of_two (names.Cmov c) w a b = does.MoveIf c a b
 of_two _ w a b = unlisted
 
 -- ---- three operands
 
+abbrev pub double_shift_of : Op → Op → FlagRule → Operand → Operand → Operand → Operation
+double_shift_of op other rule to (Register w r) count = does.DoubleShift op other rule w to r count
+double_shift_of op other rule to _ count = unlisted
+
 abbrev pub of_three : Mnemonic → Width → Operand → Operand → Operand → Operation
 of_three names.Imul w a b c = product_of a b c
+of_three names.Shld w a b c = double_shift_of ops.Shl ops.Shr rules.ShiftLeft a b c
+of_three names.Shrd w a b c = double_shift_of ops.Shr ops.Shl rules.ShiftRightDouble a b c
 of_three _ w a b c = unlisted
 
 -- by the operands

@@ -51,6 +51,12 @@ is_count (Number B8 n) = true
 is_count (Register B8 r) = r == 1
 is_count _ = false
 
+-- the index of a bit: a number of 8 bits, or a register of the width
+abbrev pub is_bit_index : Width → Operand → Bool
+is_bit_index w (Number B8 n) = true
+is_bit_index w (Register v r) = is_width v w
+is_bit_index w _ = false
+
 -- where JMP and CALL go: an offset, or an address
 abbrev pub is_target : Operand → Bool
 is_target (Offset o) = true
@@ -66,6 +72,11 @@ has_own_widths (does.Convert op w to from by) = has_place w to && fits_width w f
 has_own_widths (does.Lea to address) = is_register to && (has_place B16 to || has_place B32 to)
 has_own_widths (does.Exchange place w r) = has_place w place
 has_own_widths (does.Shift op rule w to count) = has_place w to && is_count count
+has_own_widths (does.DoubleShift op other rule w to register count) = has_place w to && is_count count
+has_own_widths (does.TestBit change w register index) = is_bit_index w index
+has_own_widths (does.FindBit op w register from) = has_width w from
+has_own_widths (does.CompareExchange place w register) = has_place w place
+has_own_widths (does.ExchangeAdd place w register) = has_place w place
 has_own_widths (does.MultiplyLong high rule w from) = has_width w from
 has_own_widths (does.Multiply w r left right) = has_width w left && has_width w right
 has_own_widths (does.Divide signed w by) = has_width w by

@@ -24,12 +24,14 @@ pub enum FlagRule {
     Negation,
     /// AND, OR, XOR, TEST: CF and OF clear, SF, ZF and PF by the result.
     Logic,
-    /// SHL of `a` by the count `b`.
+    /// SHL of `a` by the count `b`, and SHLD.
     ShiftLeft,
     /// SHR of `a` by the count `b`.
     ShiftRight,
     /// SAR of `a` by the count `b`.
     ShiftRightSigned,
+    /// SHRD of `a` by the count `b`.
+    ShiftRightDouble,
     /// ROL by the count `b`.
     RotateLeft,
     /// ROR by the count `b`.
@@ -38,6 +40,10 @@ pub enum FlagRule {
     Product,
     /// IMUL: CF and OF where the signed `a * b` does not fit.
     SignedProduct,
+    /// BT, BTS, BTR, BTC: CF is the bit of `a` at the place `b`.
+    BitTest,
+    /// BSF, BSR: ZF where `a` is 0.
+    BitScan,
     /// SAHF: CF, PF, AF, ZF and SF are the bits 0, 2, 4, 6 and 7 of `a`.
     Status,
 }
@@ -51,11 +57,21 @@ impl FlagRule {
             FlagRule::Logic
             | FlagRule::ShiftLeft
             | FlagRule::ShiftRight
+            | FlagRule::ShiftRightDouble
             | FlagRule::ShiftRightSigned => Flags::ADJUST,
             FlagRule::Product | FlagRule::SignedProduct => Flags::PARITY
                 .union(Flags::ADJUST)
                 .union(Flags::ZERO)
                 .union(Flags::SIGN),
+            FlagRule::BitTest => Flags::PARITY
+                .union(Flags::ADJUST)
+                .union(Flags::SIGN)
+                .union(Flags::OVERFLOW),
+            FlagRule::BitScan => Flags::CARRY
+                .union(Flags::PARITY)
+                .union(Flags::ADJUST)
+                .union(Flags::SIGN)
+                .union(Flags::OVERFLOW),
             _ => Flags::empty(),
         }
     }

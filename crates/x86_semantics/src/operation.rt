@@ -44,6 +44,19 @@ pub enum FlagChange {
     SetDirection,
 }
 
+/// What a bit test does to the bit.
+#[derive(Clone, Copy)]
+pub enum BitChange {
+    /// BT
+    KeepBit,
+    /// BTS
+    SetBit,
+    /// BTR
+    ClearBit,
+    /// BTC
+    FlipBit,
+}
+
 /// What an instruction does: one variant for each shape of the manual's "Operation" sections, with the operands, the
 /// operator and the rule of the flags as parameters.
 #[derive(Clone, Copy)]
@@ -103,6 +116,42 @@ pub enum Operation {
         w: Width,
         to: Operand,
         count: Operand,
+    },
+    /// SHLD, SHRD: `op` moves the bits of `to`, and `other` those of the register that come after them.
+    DoubleShift {
+        op: Op,
+        other: Op,
+        rule: FlagRule,
+        w: Width,
+        to: Operand,
+        register: u8,
+        count: Operand,
+    },
+    /// BT, BTS, BTR, BTC of a register of this width.
+    TestBit {
+        change: BitChange,
+        w: Width,
+        register: u8,
+        index: Operand,
+    },
+    /// BSF, BSR into a register of this width: `op` tells the place of the bit.
+    FindBit {
+        op: Op,
+        w: Width,
+        register: u8,
+        from: Operand,
+    },
+    /// CMPXCHG of a place with a register of this width.
+    CompareExchange {
+        place: Operand,
+        w: Width,
+        register: u8,
+    },
+    /// XADD of a place with a register of this width.
+    ExchangeAdd {
+        place: Operand,
+        w: Width,
+        register: u8,
     },
     /// MUL, IMUL of the accumulator: `high` is the operator of the upper half.
     MultiplyLong {

@@ -1,7 +1,7 @@
 ghost use Rattle.std.specs.Prelude.{◌≡◌};
-ghost use Rattle.x86_semantics.specs.Operations.{count_jump_of, converted, element, exchange_of, jump_of, lea_of, loop_of, of_none, of_one, of_three, of_two, if_spelled, operation_of, operation_with, product_of, return_of, sign_of, unlisted, with_number};
+ghost use Rattle.x86_semantics.specs.Operations.{bit_scan_of, bit_test_of, compare_exchange_of, count_jump_of, converted, double_shift_of, element, exchange_add_of, exchange_of, jump_of, lea_of, loop_of, of_none, of_one, of_three, of_two, if_spelled, operation_of, operation_with, product_of, return_of, sign_of, unlisted, with_number};
 
-use crate::{FlagChange, FlagRule, Looping, Operation, StringKind, has_own_widths};
+use crate::{BitChange, FlagChange, FlagRule, Looping, Operation, StringKind, has_own_widths};
 use bit_words::{Op, Width};
 use memory_map::FaultKind;
 use x86_syntax::{Cond, Instr, Mnemonic, Operand};
@@ -257,6 +257,52 @@ fn exchange_of(place: Operand, with: Operand) -> Operation
     }
 }
 
+fn compare_exchange_of(place: Operand, with: Operand) -> Operation
+    ensures { result ≡ compare_exchange_of place with }
+{
+    match with {
+        Operand::Register(w, register) => Operation::CompareExchange { place, w, register },
+        _ => unlisted(),
+    }
+}
+
+fn exchange_add_of(place: Operand, with: Operand) -> Operation
+    ensures { result ≡ exchange_add_of place with }
+{
+    match with {
+        Operand::Register(w, register) => Operation::ExchangeAdd { place, w, register },
+        _ => unlisted(),
+    }
+}
+
+fn bit_test_of(change: BitChange, of: Operand, index: Operand) -> Operation
+    ensures { result ≡ bit_test_of change of index }
+{
+    match of {
+        Operand::Register(w, register) => Operation::TestBit {
+            change,
+            w,
+            register,
+            index,
+        },
+        _ => unlisted(),
+    }
+}
+
+fn bit_scan_of(op: Op, to: Operand, from: Operand) -> Operation
+    ensures { result ≡ bit_scan_of op to from }
+{
+    match to {
+        Operand::Register(w, register) => Operation::FindBit {
+            op,
+            w,
+            register,
+            from,
+        },
+        _ => unlisted(),
+    }
+}
+
 fn combined(op: Op, rule: FlagRule, w: Width, to: Operand, from: Operand) -> Operation
     ensures { result ≡ Operation.Combine op rule w to from }
 {
@@ -342,6 +388,14 @@ fn of_two(name: Mnemonic, w: Width, a: Operand, b: Operand) -> Operation
         Mnemonic::Sar => shifted(Op::Sar, FlagRule::ShiftRightSigned, w, a, b),
         Mnemonic::Rol => shifted(Op::Rol, FlagRule::RotateLeft, w, a, b),
         Mnemonic::Ror => shifted(Op::Ror, FlagRule::RotateRight, w, a, b),
+        Mnemonic::Bt => bit_test_of(BitChange::KeepBit, a, b),
+        Mnemonic::Bts => bit_test_of(BitChange::SetBit, a, b),
+        Mnemonic::Btr => bit_test_of(BitChange::ClearBit, a, b),
+        Mnemonic::Btc => bit_test_of(BitChange::FlipBit, a, b),
+        Mnemonic::Bsf => bit_scan_of(Op::LowBit, a, b),
+        Mnemonic::Bsr => bit_scan_of(Op::HighBit, a, b),
+        Mnemonic::Cmpxchg => compare_exchange_of(a, b),
+        Mnemonic::Xadd => exchange_add_of(a, b),
         Mnemonic::Imul => product_of(a, a, b),
         Mnemonic::Cmov(condition) => Operation::MoveIf {
             condition,
@@ -352,11 +406,37 @@ fn of_two(name: Mnemonic, w: Width, a: Operand, b: Operand) -> Operation
     }
 }
 
+fn double_shift_of(
+    op: Op,
+    other: Op,
+    rule: FlagRule,
+    to: Operand,
+    from: Operand,
+    count: Operand,
+) -> Operation
+    ensures { result ≡ double_shift_of op other rule to from count }
+{
+    match from {
+        Operand::Register(w, register) => Operation::DoubleShift {
+            op,
+            other,
+            rule,
+            w,
+            to,
+            register,
+            count,
+        },
+        _ => unlisted(),
+    }
+}
+
 fn of_three(name: Mnemonic, w: Width, a: Operand, b: Operand, c: Operand) -> Operation
     ensures { result ≡ of_three name w a b c }
 {
     match name {
         Mnemonic::Imul => product_of(a, b, c),
+        Mnemonic::Shld => double_shift_of(Op::Shl, Op::Shr, FlagRule::ShiftLeft, a, b, c),
+        Mnemonic::Shrd => double_shift_of(Op::Shr, Op::Shl, FlagRule::ShiftRightDouble, a, b, c),
         _ => unlisted(),
     }
 }

@@ -1,5 +1,5 @@
 ghost use Rattle.std.specs.Prelude.{◌≡◌};
-ghost use Rattle.x86_semantics.specs.Widths.{fits_width, has_own_widths, has_place, has_width, is_count, is_place, is_register, is_target, is_value, width_of};
+ghost use Rattle.x86_semantics.specs.Widths.{fits_width, has_own_widths, has_place, has_width, is_bit_index, is_count, is_place, is_register, is_target, is_value, width_of};
 
 use crate::Operation;
 use bit_words::Width;
@@ -62,6 +62,16 @@ fn is_count(o: Operand) -> bool
     }
 }
 
+fn is_bit_index(w: Width, o: Operand) -> bool
+    ensures { result ≡ is_bit_index w o }
+{
+    match o {
+        Operand::Number(Width::B8, _) => true,
+        Operand::Register(v, _) => v.bits() == w.bits(),
+        _ => false,
+    }
+}
+
 fn is_target(o: Operand) -> bool
     ensures { result ≡ is_target o }
 {
@@ -87,6 +97,11 @@ pub fn has_own_widths(operation: Operation) -> bool
         }
         Operation::Exchange { place, w, .. } => has_place(w, place),
         Operation::Shift { w, to, count, .. } => has_place(w, to) && is_count(count),
+        Operation::DoubleShift { w, to, count, .. } => has_place(w, to) && is_count(count),
+        Operation::TestBit { w, index, .. } => is_bit_index(w, index),
+        Operation::FindBit { w, from, .. } => has_width(w, from),
+        Operation::CompareExchange { place, w, .. } => has_place(w, place),
+        Operation::ExchangeAdd { place, w, .. } => has_place(w, place),
         Operation::MultiplyLong { w, from, .. } => has_width(w, from),
         Operation::Multiply { w, left, right, .. } => has_width(w, left) && has_width(w, right),
         Operation::Divide { w, by, .. } => has_width(w, by),

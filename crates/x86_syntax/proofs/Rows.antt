@@ -20,7 +20,7 @@ use Rattle.x86_syntax.specs.declared.table.Row.{Row}
 use Rattle.x86_syntax.specs.declared.table.TheConstants.{ROWS}
 use Rattle.x86_syntax.specs.Formats.{Format, Whole, Never, Byte, matched, number_then}
 use Rattle.x86_syntax.specs.Opcodes.{takes_modrm, row_of, opcode_row, has_all, has_opcode}
-use Rattle.x86_syntax.specs.Spelling.{spelled_with, is_prefix, with_prefix, no_prefixes, opcodes, escaped, opcode_then, behind, behind_modrm, needs_memory, ending, place_then, address_then, index_register, displacement_size, mod_of, reg_of, rm_of, row_number_size, instr_of, operands, placed, Parts, word_width, segment_named}
+use Rattle.x86_syntax.specs.Spelling.{spelled_with, is_prefix, with_prefix, no_prefixes, opcodes, escaped, opcode_then, behind, behind_modrm, is_wrong_place, ending, place_then, address_then, index_register, displacement_size, mod_of, reg_of, rm_of, row_number_size, instr_of, operands, placed, Parts, word_width, segment_named}
 use Rattle.x86_syntax.specs.Decodes.{HasSpelling}
 use Rattle.x86_syntax.specs.Text.{operand_room}
 use Rattle.x86_syntax.proofs.FormatLemmas.{never_matched}
@@ -84,7 +84,7 @@ modrm_named : (p : Prefixes) (code m : ℕ) (found : Option Row) (i : Instr) →
 unfolding behind_modrm
 modrm_named p code m None i keeps s h = never_named s i h
 modrm_named p code m (Some row) i keeps s h =
-    if_named (needs_memory p row && (mod_of m == 3)) _ _ i s (never_named s i) (place_named m _ i (λ place x. ending_named p row code m place i (keeps row refl) x) s) h
+    if_named (is_wrong_place p row (mod_of m)) _ _ i s (never_named s i) (place_named m _ i (λ place x. ending_named p row code m place i (keeps row refl) x) s) h
 
 row_keeps : (p : Prefixes) (map : Map) (code reg : ℕ) (row : Row) → row_of p map code reg ≡ Some row → (fact : Row → Bool) → list_all fact ROWS ≡ true → fact row ≡ true
 unfolding row_of
@@ -130,6 +130,8 @@ is_number_form : Form → Bool
 is_number_form forms.Nothing = true
 is_number_form forms.Iv = true
 is_number_form forms.Is = true
+is_number_form forms.Ib = true
+is_number_form forms.Cl = true
 is_number_form _ = false
 
 has_number_third : Row → Bool
@@ -154,16 +156,17 @@ third_room p parts forms.Gb h = cc
 third_room p parts forms.Gv h = cc
 third_room p parts forms.M h = cc
 third_room p parts forms.N h = cc
+third_room p parts forms.Uv h = cc
 third_room p parts forms.Ab h = cc
 third_room p parts forms.Av h = cc
 third_room p parts forms.Rb h = cc
 third_room p parts forms.Rv h = cc
-third_room p parts forms.Ib h = cc
+third_room p parts forms.Ib h = omega arith
 third_room p parts forms.Iw h = cc
 third_room p parts forms.Iv h = omega arith
 third_room p parts forms.Is h = omega arith
 third_room p parts forms.One h = cc
-third_room p parts forms.Cl h = cc
+third_room p parts forms.Cl h = omega arith
 third_room p parts forms.Ob h = cc
 third_room p parts forms.Ov h = cc
 third_room p parts forms.J8 h = cc
@@ -183,6 +186,7 @@ form_room p parts forms.Gb = omega arith
 form_room p parts forms.Gv = omega arith
 form_room p parts forms.M = omega (arith, placed_room (word_width p) Plain parts.place)
 form_room p parts forms.N = omega (arith, placed_room (word_width p) Plain parts.place)
+form_room p parts forms.Uv = omega (arith, placed_room (word_width p) Plain parts.place)
 form_room p parts forms.Ab = omega arith
 form_room p parts forms.Av = omega arith
 form_room p parts forms.Rb = omega arith

@@ -10,8 +10,8 @@ use Rattle.x86_syntax.specs.declared.table.Map.{Map}
 use Rattle.x86_syntax.specs.declared.table.Map.TheVariants.{One, Two, Three}
 use Rattle.x86_syntax.specs.declared.table.Row.{Row}
 use Rattle.x86_syntax.specs.declared.table.TheConstants.{ROWS}
-use Rattle.x86_syntax.specs.Spelling.{row_number_size}
-use Rattle.x86_syntax.specs.Opcodes.{is_map, has_code, has_reg, takes_modrm, is_listed, has_opcode, has_all, row_of, opcode_row, may_escape, may_escape_twice}
+use Rattle.x86_syntax.specs.Spelling.{row_number_size, is_lock, is_m, is_u, needs_memory, needs_register}
+use Rattle.x86_syntax.specs.Opcodes.{is_map, has_code, has_reg, takes_modrm, group_listed, is_listed, has_opcode, has_all, row_of, opcode_row, may_escape, may_escape_twice}
 
 -- what a search finds
 
@@ -85,6 +85,32 @@ row_found p map code row found =
     let reg : has_reg row.low row ≡ true = and_from _ _ (le-leb row.low row.low (omega arith)) (le-leb row.low row.high order.0) in
     find_again (has_opcode p map code) (has_all p map code row.low) ROWS row found (and_from _ _ (and_from _ _ holds.0 reg) holds.1)
 
+-- no row wants a register alone and memory alone
+is_one_kind : Row → Bool
+is_one_kind row = not (is_u row.forms.first) || (not row.lock && not (is_m row.forms.second))
+
+all_one_kind : list_all is_one_kind ROWS ≡ true
+unfolding is_one_kind
+all_one_kind = refl
+
+turned : (a : Bool) → not a ≡ true → a ≡ false
+turned true h = cc
+turned false h = refl
+
+one_kind : (group : Group) (row : Row) → group_listed group row ≡ true → not row.lock ≡ true → not (is_m row.forms.second) ≡ true → (is_lock group || is_m row.forms.second) ≡ false
+one_kind Lock row listed lock memory = absurd (refuted row.lock lock listed)
+one_kind Empty row listed lock memory = turned (is_m row.forms.second) memory
+one_kind Rep row listed lock memory = turned (is_m row.forms.second) memory
+one_kind Repne row listed lock memory = turned (is_m row.forms.second) memory
+
+pub row_kind : (p : Prefixes) (map : Map) (code reg : ℕ) (row : Row) → row_of p map code reg ≡ Some row → needs_register row ≡ true → needs_memory p row ≡ false
+unfolding row_of is_one_kind
+row_kind p map code reg row found register =
+    let holds = and_parts _ _ (find_holds (has_all p map code reg) ROWS row found) in
+    let listed = and_parts _ _ (and_parts _ _ holds.0).0 in
+    let kinds = and_parts _ _ (implied (is_u row.forms.first) _ (find_all is_one_kind (has_all p map code reg) ROWS row all_one_kind found) register) in
+    one_kind p.group row listed.1 kinds.0 kinds.1
+
 -- rows behind particular prefixes
 
 abbrev pub prefixed : Group → Bool → Option ℕ → Prefixes
@@ -128,8 +154,7 @@ unfolding is_one_or_unlisted
 one_only Empty size segment h = cc
 one_only Rep false segment h = cc
 one_only Rep true segment h = refl
-one_only Lock false segment h = refl
-one_only Lock true segment h = refl
+one_only Lock size segment h = cc
 one_only Repne false segment h = refl
 one_only Repne true segment h = refl
 

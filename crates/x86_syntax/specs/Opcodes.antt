@@ -8,7 +8,7 @@ use Rattle.x86_syntax.specs.declared.table.Map.TheVariants.{One, Two, Three}
 use Rattle.x86_syntax.specs.declared.table.Repeats.{Repeats}
 use Rattle.x86_syntax.specs.declared.table.Repeats.TheVariants as repeats
 use Rattle.x86_syntax.specs.declared.table.Form.{Form}
-use Rattle.x86_syntax.specs.declared.table.Form.TheVariants.{Eb, Ev, Ew, Gb, Gv, M, N}
+use Rattle.x86_syntax.specs.declared.table.Form.TheVariants.{Eb, Ev, Ew, Gb, Gv, M, N, Uv}
 use Rattle.x86_syntax.specs.declared.table.Row.{Row}
 use Rattle.x86_syntax.specs.declared.table.TheConstants.{ROWS}
 
@@ -35,6 +35,7 @@ is_of_modrm Gb = true
 is_of_modrm Gv = true
 is_of_modrm M = true
 is_of_modrm N = true
+is_of_modrm Uv = true
 is_of_modrm _ = false
 
 -- whether a ModRM byte follows the opcodes of the row
@@ -82,6 +83,7 @@ opcode_row p map code = find (has_opcode p map code) ROWS
 -- the prefixes behind which an opcode behind 0F, and the one behind 0F 1E, is listed
 abbrev pub may_escape : Group → Bool → Bool
 may_escape Empty size = true
+may_escape Lock size = true
 may_escape Rep false = true
 may_escape _ _ = false
 

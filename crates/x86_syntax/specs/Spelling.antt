@@ -86,6 +86,7 @@ form_width p forms.Gb = B8
 form_width p forms.Gv = word_width p
 form_width p forms.M = word_width p
 form_width p forms.N = word_width p
+form_width p forms.Uv = word_width p
 form_width p forms.Ab = B8
 form_width p forms.Av = word_width p
 form_width p forms.Rb = B8
@@ -199,6 +200,7 @@ operands p parts forms.Gb = Register B8 (reg_of parts.modrm) ∷ []
 operands p parts forms.Gv = Register (word_width p) (reg_of parts.modrm) ∷ []
 operands p parts forms.M = placed (word_width p) Plain parts.place ∷ []
 operands p parts forms.N = placed (word_width p) Plain parts.place ∷ []
+operands p parts forms.Uv = placed (word_width p) Plain parts.place ∷ []
 operands p parts forms.Ab = Register B8 0 ∷ []
 operands p parts forms.Av = Register (word_width p) 0 ∷ []
 operands p parts forms.Rb = Register B8 (parts.code % 8) ∷ []
@@ -271,9 +273,21 @@ abbrev pub is_m : Form → Bool
 is_m forms.M = true
 is_m _ = false
 
+abbrev pub is_u : Form → Bool
+is_u forms.Uv = true
+is_u _ = false
+
 -- whether mod 3 is not listed: LEA, and where LOCK stands
 abbrev pub needs_memory : Prefixes → Row → Bool
 needs_memory p row = is_lock p.group || is_m row.forms.second
+
+-- whether mod 3 alone is listed: the bit tests
+abbrev pub needs_register : Row → Bool
+needs_register row = is_u row.forms.first
+
+-- whether the operand with this mod field is not listed
+abbrev pub is_wrong_place : Prefixes → Row → ℕ → Bool
+is_wrong_place p row mode = if mode == 3 then needs_memory p row else needs_register row
 
 -- the number that ends an instruction
 unfoldable pub ending : Prefixes → Row → ℕ → ℕ → Place → Format Instr
@@ -284,7 +298,7 @@ ending p row code modrm place =
 unfoldable pub behind_modrm : Prefixes → Option Row → ℕ → ℕ → Format Instr
 behind_modrm p None code modrm = Never
 behind_modrm p (Some row) code modrm =
-    if needs_memory p row && (mod_of modrm == 3) then Never else place_then modrm (λ place. ending p row code modrm place)
+    if is_wrong_place p row (mod_of modrm) then Never else place_then modrm (λ place. ending p row code modrm place)
 
 -- behind the opcode, of which this is the first row
 unfoldable pub behind : Prefixes → Map → ℕ → Option Row → Format Instr

@@ -26,7 +26,7 @@ pub enum Name {
 }
 
 /// A form of operand. E is the operand of the ModRM byte, G its register, M memory of which only the address is
-/// used, N an operand that is not accessed, A the accumulator, R the register in the opcode's low three bits,
+/// used, N an operand that is not accessed, U one that must be a register, A the accumulator, R the register in the opcode's low three bits,
 /// O memory at an absolute address, I an immediate, Is one of a byte that is sign-extended, J a branch offset.
 /// X and Y are no operand, but the element of a string operation at ESI, and at EDI alone; V is the width alone.
 /// The letter b is 8 bits, w 16 and v 32, or 16 where the prefix 66 stands.
@@ -41,6 +41,7 @@ pub enum Form {
     Gv,
     M,
     N,
+    Uv,
     Ab,
     Av,
     Rb,
@@ -116,7 +117,7 @@ impl Form {
     {
         matches!(
             self,
-            Form::Eb | Form::Ev | Form::Ew | Form::Gb | Form::Gv | Form::M | Form::N
+            Form::Eb | Form::Ev | Form::Ew | Form::Gb | Form::Gv | Form::M | Form::N | Form::Uv
         )
     }
 }
@@ -280,7 +281,7 @@ macro_rules! row {
 /// The opcode table. A line has the map, the opcodes, the reg fields where not all are listed, the name, the forms of
 /// the operands, whether the prefixes 66 and F0 are listed, and what F3 and F2 mean.
 /// Source: Intel manual, volume 2, the opcode maps of appendix A and the pages of the instructions.
-pub static ROWS: [Row; 127] = [
+pub static ROWS: [Row; 145] = [
     // ADD OR ADC SBB AND SUB XOR CMP, eight opcodes apart; CMP is listed without LOCK
     row!(One 0x00 x 7 by 8, (= Arithmetic), [Eb Gb], no, yes, Never),
     row!(One 0x01 x 7 by 8, (= Arithmetic), [Ev Gv], yes, yes, Never),
@@ -371,6 +372,27 @@ pub static ROWS: [Row; 127] = [
     row!(One 0xD3, /0-1, (= ShiftByReg), [Ev Cl], yes, no, Never),
     row!(One 0xD3, /4-5, (= ShiftByReg), [Ev Cl], yes, no, Never),
     row!(One 0xD3, /7, (= ShiftByReg), [Ev Cl], yes, no, Never),
+    // SHLD, SHRD
+    row!(Two 0xA4, (Shld), [Ev Gv Ib], yes, no, Never),
+    row!(Two 0xA5, (Shld), [Ev Gv Cl], yes, no, Never),
+    row!(Two 0xAC, (Shrd), [Ev Gv Ib], yes, no, Never),
+    row!(Two 0xAD, (Shrd), [Ev Gv Cl], yes, no, Never),
+    // BT, BTS, BTR, BTC, BSF, BSR
+    row!(Two 0xA3, (Bt), [Uv Gv], yes, no, Never),
+    row!(Two 0xAB, (Bts), [Uv Gv], yes, no, Never),
+    row!(Two 0xB3, (Btr), [Uv Gv], yes, no, Never),
+    row!(Two 0xBB, (Btc), [Uv Gv], yes, no, Never),
+    row!(Two 0xBA, /4, (Bt), [Uv Ib], yes, no, Never),
+    row!(Two 0xBA, /5, (Bts), [Uv Ib], yes, no, Never),
+    row!(Two 0xBA, /6, (Btr), [Uv Ib], yes, no, Never),
+    row!(Two 0xBA, /7, (Btc), [Uv Ib], yes, no, Never),
+    row!(Two 0xBC, (Bsf), [Gv Ev], yes, no, Never),
+    row!(Two 0xBD, (Bsr), [Gv Ev], yes, no, Never),
+    // CMPXCHG, XADD
+    row!(Two 0xB0, (Cmpxchg), [Eb Gb], no, yes, Never),
+    row!(Two 0xB1, (Cmpxchg), [Ev Gv], yes, yes, Never),
+    row!(Two 0xC0, (Xadd), [Eb Gb], no, yes, Never),
+    row!(Two 0xC1, (Xadd), [Ev Gv], yes, yes, Never),
     // Jcc, SETcc, CMOVcc, MOVZX, MOVSX
     row!(One 0x70 x 16, (= J), [J8], no, no, Never),
     row!(Two 0x80 x 16, (= J), [J32], no, no, Never),

@@ -569,6 +569,64 @@ ecx=2;esi=8049000;edi=8049000|F2 A7|next ecx=1 esi=8049004 edi=8049004 f=010100
 ecx=2;eax=20;edi=8049010|F2 AE|next ecx=1 edi=8049011 f=010100
 ecx=2;eax=5;edi=8049010|F2 AE|stay ecx=1 edi=8049011 f=100010
 ecx=1;eax=5;edi=8049010|F2 AE|next ecx=0 edi=8049011 f=100010
+# SHLD, SHRD
+eax=80000001;edx=F0000000|0F A4 D0 04|next eax=1F f=00?00?
+eax=80000001;edx=80000000|0F A4 D0 01|next eax=3 f=11?001
+eax=5;f=111111|0F A4 D0 00|next
+f=111111|0F A4 D0 20|next
+eax=12345678;edx=1;f=111111|66 0F A4 D0 10|next eax=any f=??????
+eax=FFFF8001;edx=C000|66 0F A4 D0 04|next eax=FFFF001C f=00?00?
+eax=1;edx=2;f=111111|0F A5 D0|next eax=any f=??????
+eax=F;edx=0;ecx=21|0F AD D0|next eax=7 f=10?000
+eax=0;edx=1|0F AC D0 01|next eax=80000000 f=01?011
+edx=1;f=111111|0F AC D0 04|next f=??????
+[esp+4]4=80000000;edx=0|0F A4 54 24 04 01|next f=11?101 m=[s+4]4=0
+[esp+4]4=5|0F A4 54 24 04 00|next
+# BT, BTS, BTR, BTC
+eax=8;ecx=3;f=000000|0F A3 C8|next f=1??0??
+eax=8;ecx=23;f=011111|0F A3 C8|next f=1??1??
+eax=8;f=111111|0F A3 C8|next f=???1??
+f=000000|0F BA E4 00|next f=???0??
+!83 F9 05|0F A3 C8|next note=none
+eax=0;f=000000|0F BA E8 05|next eax=20 f=0??0??
+eax=0;f=000000|0F AB C8|next eax=any f=???0??
+eax=FFFFFFFF;f=000000|0F AB C8|next f=???0??
+eax=FF;f=100000|0F BA F0 07|next eax=7F f=1??0??
+eax=0;f=111111|0F B3 C8|next f=???1??
+eax=1;f=000000|0F BA F8 00|next eax=0 f=1??0??
+eax=10000;f=000000|66 0F BA F8 1F|next eax=18000 f=0??0??
+# BSF, BSR
+ecx=10|0F BC C1|next eax=4 f=???0??
+eax=7;ecx=0|0F BC C1|next eax=any f=???1??
+eax=7;f=000000|0F BC C1|next eax=any f=??????
+ecx=80000010|0F BD C1|next eax=1F f=???0??
+eax=FFFFFFFF;ecx=10008|66 0F BD C1|next eax=FFFF0003 f=???0??
+eax=0|0F BC C4|next eax=any f=???0??
+[esp]4=100|0F BC 04 24|next eax=8 f=???0??
+# CMPXCHG
+eax=5;ecx=5;edx=7|0F B1 D1|next ecx=7 f=010100
+eax=0;ecx=5;edx=7|0F B1 D1|next eax=5 f=101010
+edx=7;f=111111|0F B1 D1|next ecx=7 f=?????? / next f=??????
+eax=5;edx=7|0F B1 D1|next ecx=7 / next eax=any
+ecx=5;edx=7|0F B1 D1|next ecx=7 / next eax=5
+eax=esp;ecx=esp+4;edx=1|0F B1 D1|next eax=s+4 f=?1?01?
+eax=5;ecx=9;[esp]4=5|0F B1 0C 24|next f=010100 m=[s+0]4=9
+eax=1;ecx=9;[esp]4=5|0F B1 0C 24|next eax=5 f=111010
+ecx=9;[esp]4=5|0F B1 0C 24|next m=[s+0]4=9 / next eax=5
+eax=1;ecx=9|0F B1 0D 10 90 04 08|none
+eax=23222120;ecx=9|0F B1 0D 10 90 04 08|none
+eax=12345605;ecx=5;edx=AA|0F B0 D1|next ecx=AA f=010100
+eax=12340001;ecx=2;edx=7|66 0F B1 D1|next eax=12340002 f=111010
+|0F B1 C0|next / next
+eax=3|0F B1 C0|next f=010100
+# XADD
+ecx=3;edx=4|0F C1 D1|next ecx=7 edx=3 f=000000
+ecx=FFFFFFFF;edx=1|0F C1 D1|next ecx=0 edx=FFFFFFFF f=111100
+ecx=3|0F C1 C9|next ecx=6 f=010000
+ecx=3;f=000000|0F C1 D1|next ecx=any edx=3 f=??????
+ecx=esp;edx=8|0F C1 D1|next ecx=s+8 edx=s+0 f=???0??
+[esp]4=5;ecx=2|F0 0F C1 0C 24|next ecx=5 f=000000 m=[s+0]4=7
+ecx=201|0F C0 E9|next ecx=103 f=010000
 # NOP and what faults
 |90|next
 eax=0;f=101010|0F 1F 00|next
@@ -601,7 +659,10 @@ k=3;!83 F8 02|76 10|8048012 eax=0 / 8048012 eax=1 / 8048012 eax=2 / next
 k=2;!83 F8 02|76 10|8048012 / next
 ebx=z+4|8B 03|next
 ebx=p+4|C7 03 07 00 00 00|! store
-|F3 AB|next / ! store";
+|F3 AB|next / ! store
+ecx=10|0F BC C1|next eax=4 f=???0??
+|0F B1 D1|next / next
+ecx=3;edx=4|0F C1 D1|next ecx=7 edx=3 f=000000";
 
 /// Single expansions over numbers and lines of sixteen numbers, in the same form; `N..M` are the numbers of a line.
 pub(super) const LINED: &str = "\

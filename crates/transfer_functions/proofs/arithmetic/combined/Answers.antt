@@ -1,5 +1,5 @@
 use Rattle.domain_laws.specs.Made.{values_of}
-use Rattle.transfer_functions.proofs.Holds.{write-own, write-place}
+use Rattle.transfer_functions.proofs.Holds.{write-place}
 use Rattle.transfer_functions.proofs.arithmetic.combined.Goals as goal
 
 pub returns-else-keeps-clause-writable : goal.returns-else-keeps-clause-writable

@@ -1,4 +1,4 @@
-use Rattle.std.proofs.Common.{ℕ, ◌≡◌, ◌<◌, ◌≤◌, List, length, sym, ◌∙◌, ap, subst, arith}
+use Rattle.std.proofs.Common.{ℕ, ◌<◌, ◌≤◌, List, length, sym, ◌∙◌, ap, subst, arith}
 use Rattle.memory_map.specs.Range.{Range, code_run}
 use Rattle.domain_laws.specs.Made.{values_of}
 use Rattle.transfer_functions.proofs.Fetching.{IsRun, run-cut, run-ends, run-inside, run-more, run-starts}

@@ -1,7 +1,6 @@
 use Rattle.std.proofs.Common.{ℕ, ◌<◌, ◌^◌, sym, subst}
 use Rattle.bit_words.specs.declared.op.Op.{Op}
-use Rattle.bit_words.specs.declared.op.Op.TheVariants.{Low16}
-use Rattle.bit_words.specs.declared.width.Width.TheVariants.{B8, B16, B32}
+use Rattle.bit_words.specs.declared.width.Width.TheVariants.{B8, B32}
 use Rattle.bit_words.specs.Operators.{apply_op}
 use Rattle.domain_laws.specs.Made.{values_of}
 use Rattle.partitioned_memory.specs.Well.{MayHold}

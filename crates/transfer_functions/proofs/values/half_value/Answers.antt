@@ -1,8 +1,6 @@
-use Rattle.std.proofs.Common.{ℕ, ◌<◌, ◌^◌, sym, subst}
-use Rattle.bit_words.specs.declared.op.Op.{Op}
+use Rattle.std.proofs.Common.{sym, subst}
 use Rattle.bit_words.specs.declared.op.Op.TheVariants.{Low16}
-use Rattle.bit_words.specs.declared.width.Width.TheVariants.{B8, B16, B32}
-use Rattle.bit_words.specs.Operators.{apply_op}
+use Rattle.bit_words.specs.declared.width.Width.TheVariants.{B16, B32}
 use Rattle.domain_laws.specs.Made.{values_of}
 use Rattle.partitioned_memory.specs.Well.{MayHold}
 use Rattle.transfer_functions.proofs.Holds.{narrow-holds, low16-lt}

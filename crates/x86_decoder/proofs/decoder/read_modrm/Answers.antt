@@ -1,10 +1,7 @@
 use Rattle.std.proofs.Common.{ap, sym, ◌∙◌}
-use Rattle.std.specs.Prelude.{◌==◌}
-use Rattle.std.proofs.lemmas.Bool.{and_parts, eqb-true}
 use Rattle.x86_syntax.specs.Opcodes.{row_of}
-use Rattle.x86_syntax.specs.Spelling.{mod_of, needs_memory}
 use Rattle.x86_syntax.proofs.TableLemmas.{row_small}
-use Rattle.x86_decoder.proofs.Steps.{no_bytes, modrm_end, modrm_none, modrm_register, modrm_place}
+use Rattle.x86_decoder.proofs.Steps.{no_bytes, modrm_end, modrm_none, modrm_wrong, modrm_place}
 use Rattle.x86_decoder.proofs.decoder.read_modrm.Goals as goal
 
 pub returns-in-None : goal.returns-in-None
@@ -18,9 +15,8 @@ returns-in-None-find_row c =
 
 pub returns-then-is_wrong_place : goal.returns-then-is_wrong_place
 returns-then-is_wrong_place c =
-    let parts = and_parts (needs_memory c.args.prefixes c.in-Some-find_row.row) (mod_of c.in-Some.modrm.now == 3) (sym c.is_wrong_place.ensures ∙ c.if-is_wrong_place.true) in
-    modrm_register c.args.prefixes c.args.map c.args.code c.in-Some.modrm.now c.args.first c.in-Some-find_row.row c.args.bytes.now c.in-Some.rest.now c.args.at c.requires.row c.in-Some.ensures.cases.0
-    (ap (row_of c.args.prefixes c.args.map c.args.code) (sym c.reg.ensures) ∙ sym c.find_row.ensures ∙ c.in-Some-find_row.is) parts.0 (eqb-true (mod_of c.in-Some.modrm.now) 3 parts.1)
+    modrm_wrong c.args.prefixes c.args.map c.args.code c.in-Some.modrm.now c.args.first c.in-Some-find_row.row c.args.bytes.now c.in-Some.rest.now c.args.at c.requires.row c.in-Some.ensures.cases.0
+    (ap (row_of c.args.prefixes c.args.map c.args.code) (sym c.reg.ensures) ∙ sym c.find_row.ensures ∙ c.in-Some-find_row.is) (sym c.is_wrong_place.ensures ∙ c.if-is_wrong_place.true)
 
 pub read_place-requires-clause-small : goal.read_place-requires-clause-small
 read_place-requires-clause-small c = row_small c.args.prefixes c.args.map c.args.code c.reg.result c.in-Some-find_row.row (sym c.find_row.ensures ∙ c.in-Some-find_row.is)

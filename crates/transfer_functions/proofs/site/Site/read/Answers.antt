@@ -1,5 +1,4 @@
 use Rattle.std.proofs.Common.{sym, subst}
-use Rattle.bit_words.specs.declared.width.Width.{Width}
 use Rattle.domain_laws.specs.Made.{values_of}
 use Rattle.partitioned_memory.specs.Well.{MayHold}
 use Rattle.x86_syntax.specs.declared.instr.Operand.{Operand}

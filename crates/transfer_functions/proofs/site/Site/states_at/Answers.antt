@@ -1,5 +1,4 @@
 use Rattle.std.proofs.Common.{◌∙◌, map, ap}
-use Rattle.domain_laws.specs.Made.{values_of}
 use Rattle.transfer_functions.proofs.Parts.{expansion-of}
 use Rattle.transfer_functions.proofs.site.Site.states_at.Goals as goal
 

@@ -1,7 +1,6 @@
-use Rattle.std.proofs.Common.{◌≡◌, ◌∙◌, ap}
+use Rattle.std.proofs.Common.{◌∙◌, ap}
 use Rattle.std.proofs.lemmas.Result.{IfOk-weaker}
 use Rattle.domain_laws.specs.Made.{values_of}
-use Rattle.abstract_state.specs.Accessing.{stored}
 use Rattle.transfer_functions.proofs.Blocks.{stored-blocks}
 use Rattle.transfer_functions.proofs.site.Site.store.Goals as goal
 
