@@ -611,11 +611,17 @@ fn check_operation(rt: &impl Abort, bytes: &[u8]) {
     }
 }
 
-// An opcode of the first map and one of the second, with each ModRM byte.
+// An opcode of the first map and one of the second, with a ModRM byte.
+fn check_modrm(rt: &impl Abort, prefix: u8, code: u8, modrm: u8) {
+    check_operation(rt, &[prefix, code, modrm, 0, 0, 0, 0, 0, 0, 0, 0, 0]);
+    check_operation(rt, &[prefix, 0x0F, code, modrm, 0, 0, 0, 0, 0, 0, 0, 0, 0]);
+}
+
+// Each reg field, with memory and with a register.
 fn check_opcode(rt: &impl Abort, prefix: u8, code: u8) {
-    for modrm in 0..=255u8 {
-        check_operation(rt, &[prefix, code, modrm, 0, 0, 0, 0, 0, 0, 0, 0, 0]);
-        check_operation(rt, &[prefix, 0x0F, code, modrm, 0, 0, 0, 0, 0, 0, 0, 0, 0]);
+    for reg in 0..8u8 {
+        check_modrm(rt, prefix, code, 8 * reg);
+        check_modrm(rt, prefix, code, 0xC0 + 8 * reg);
     }
 }
 
@@ -625,10 +631,11 @@ fn check_opcodes(rt: &impl Abort, prefix: u8) {
     }
 }
 
-// Each row of the opcode table is among these strings, with the prefix 66 and without it.
+// Each row of the opcode table is among these strings, with the prefixes 66 and F0 and without them.
 #[test]
 fn each_spelled_instruction_has_an_operation(rt: HostRuntime) {
     check_opcodes(&rt, 0x26);
     check_opcodes(&rt, 0x66);
+    check_opcodes(&rt, 0xF0);
     check_operation(&rt, &[0xF3, 0x0F, 0x1E, 0xFB]);
 }
