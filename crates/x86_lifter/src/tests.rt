@@ -518,6 +518,12 @@ fn choice_eax(words: &str) -> Result<u32, Fail> {
     Ok(0)
 }
 
+fn choice_told(alloc: Global, words: &str) -> Result<Choice, Fail> {
+    let flags = choice_flags(words)?;
+    let eax = choice_eax(words)?;
+    Ok(choice_of(alloc, flags, eax))
+}
+
 fn fault_named(name: &str) -> Option<FaultKind> {
     if name == "! Read" {
         return Some(FaultKind::Read);
@@ -564,7 +570,7 @@ fn check_step(rt: &impl Abort, alloc: Global, line: &str) -> Result<(), Fail> {
     let (words, rest) = line.split_once('|').ok_or("a line")?;
     let (before, after) = rest.split_once('|').ok_or("what comes after")?;
     let bytes = bytes_of(alloc, words)?;
-    let choice = choice_of(alloc, choice_flags(before)?, choice_eax(before)?);
+    let choice = choice_told(alloc, before)?;
     let mut is = start(alloc)?;
     set_all(&mut is, before)?;
     let mut wanted = start(alloc)?;
