@@ -9,11 +9,18 @@ use crate::pieces::{
     skip_unless,
 };
 use bit_words::{Op, Width};
-use statement_lang::{Source, Stmts, Test};
+use statement_lang::{Source, Stmt, Stmts, Test};
 use x86_semantics::FlagRule;
 use x86_syntax::Operand;
 
 const EAX: u8 = 0;
+
+// Passes over what the accumulator takes where it is equal to the place, which the temporary 6 tells.
+fn unless_equal() -> Stmt
+    ensures { result ≡ Stmt.SkipUnless (Test.Zero (Source.Temp 6)) 1 }
+{
+    skip_unless(Test::Zero(Source::Temp(6)), 1)
+}
 
 /// CMPXCHG.
 pub fn compare_exchange(place: Operand, w: Width, register: u8, next: u32) -> Stmts
@@ -28,7 +35,7 @@ pub fn compare_exchange(place: Operand, w: Width, register: u8, next: u32) -> St
         skip_unless(Test::Zero(Source::Temp(6)), 1),
         copy(Source::Temp(4), Source::Temp(2)),
         keep(place, 0, 4),
-        skip_unless(Test::Zero(Source::Temp(6)), 1),
+        unless_equal(),
         keep_register(w, EAX, 2),
         set_flags(FlagRule::Difference, w, 3, 2, 5),
         free(FlagRule::Difference),

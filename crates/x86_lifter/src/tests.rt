@@ -518,6 +518,12 @@ fn choice_eax(words: &str) -> Result<u32, Fail> {
     Ok(0)
 }
 
+fn choice_told(alloc: Global, words: &str) -> Result<Choice, Fail> {
+    let flags = choice_flags(words)?;
+    let eax = choice_eax(words)?;
+    Ok(choice_of(alloc, flags, eax))
+}
+
 fn fault_named(name: &str) -> Option<FaultKind> {
     if name == "! Read" {
         return Some(FaultKind::Read);
@@ -564,7 +570,7 @@ fn check_step(rt: &impl Abort, alloc: Global, line: &str) -> Result<(), Fail> {
     let (words, rest) = line.split_once('|').ok_or("a line")?;
     let (before, after) = rest.split_once('|').ok_or("what comes after")?;
     let bytes = bytes_of(alloc, words)?;
-    let choice = choice_of(alloc, choice_flags(before)?, choice_eax(before)?);
+    let choice = choice_told(alloc, before)?;
     let mut is = start(alloc)?;
     set_all(&mut is, before)?;
     let mut wanted = start(alloc)?;
@@ -611,11 +617,17 @@ fn check_operation(rt: &impl Abort, bytes: &[u8]) {
     }
 }
 
-// An opcode of the first map and one of the second, with each ModRM byte.
+// An opcode of the first map and one of the second, with a ModRM byte.
+fn check_modrm(rt: &impl Abort, prefix: u8, code: u8, modrm: u8) {
+    check_operation(rt, &[prefix, code, modrm, 0, 0, 0, 0, 0, 0, 0, 0, 0]);
+    check_operation(rt, &[prefix, 0x0F, code, modrm, 0, 0, 0, 0, 0, 0, 0, 0, 0]);
+}
+
+// Each reg field, with memory and with a register.
 fn check_opcode(rt: &impl Abort, prefix: u8, code: u8) {
-    for modrm in 0..=255u8 {
-        check_operation(rt, &[prefix, code, modrm, 0, 0, 0, 0, 0, 0, 0, 0, 0]);
-        check_operation(rt, &[prefix, 0x0F, code, modrm, 0, 0, 0, 0, 0, 0, 0, 0, 0]);
+    for reg in 0..8u8 {
+        check_modrm(rt, prefix, code, 8 * reg);
+        check_modrm(rt, prefix, code, 0xC0 + 8 * reg);
     }
 }
 
@@ -625,10 +637,11 @@ fn check_opcodes(rt: &impl Abort, prefix: u8) {
     }
 }
 
-// Each row of the opcode table is among these strings, with the prefix 66 and without it.
+// Each row of the opcode table is among these strings, with the prefixes 66 and F0 and without them.
 #[test]
 fn each_spelled_instruction_has_an_operation(rt: HostRuntime) {
     check_opcodes(&rt, 0x26);
     check_opcodes(&rt, 0x66);
+    check_opcodes(&rt, 0xF0);
     check_operation(&rt, &[0xF3, 0x0F, 0x1E, 0xFB]);
 }
