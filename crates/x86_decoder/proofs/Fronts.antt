@@ -52,7 +52,7 @@ goes_on_by (suc n) bytes (b ∷ []) i more short small whole =
 goes_on_by (suc n) bytes (b ∷ c ∷ rest) i more short small whole =
     tried (λ x. is_some (spelled (bytes ++ x ∷ [])) || goes_on n (bytes ++ x ∷ [])) 256 b (small 0 b (omega arith))
     (or_right (is_some (spelled (bytes ++ b ∷ []))) (goes_on n (bytes ++ b ∷ []))
-        (goes_on_by n (bytes ++ b ∷ []) (c ∷ rest) i (omega arith) (omega arith) (λ k d l. small (suc k) d (omega arith)) (ap spelled (joined bytes b (c ∷ rest)) ∙ whole)))
+    (goes_on_by n (bytes ++ b ∷ []) (c ∷ rest) i (omega arith) (omega arith) (λ k d l. small (suc k) d (omega arith)) (ap spelled (joined bytes b (c ∷ rest)) ∙ whole)))
 
 spelling_of : (o : Option Instr) → is_some o ≡ true → (i : Instr) × (o ≡ Some i)
 spelling_of None e = cc

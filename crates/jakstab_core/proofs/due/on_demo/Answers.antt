@@ -32,5 +32,5 @@ returns g c = λ r.
     (c.deref.result.now, c.deref.ensures.value ∙ c.in-Ok.ensures.image, c.in_ok-loaded.ensures) in
     MatchResult-weaker c.text_of_loaded.result c.text_of_loaded.ensures
     (λ text found. text_found r asked (laid_out_by c.in_ok-loaded.loaded) image c.in_ok-stubs.stubs
-      (c.deref-2.result.now, (c.deref-2.ensures.value ∙ c.in-Ok.ensures.stubs, c.in_ok-stubs.ensures)) (works.Summarize c.args.blocks c.args.options) refl text.items found)
+    (c.deref-2.result.now, (c.deref-2.ensures.value ∙ c.in-Ok.ensures.stubs, c.in_ok-stubs.ensures)) (works.Summarize c.args.blocks c.args.options) refl text.items found)
     (λ status memory. inl memory)
