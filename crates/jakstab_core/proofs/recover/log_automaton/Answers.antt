@@ -1,8 +1,9 @@
--- The log has a row, and fewer than 2^32.
-use Rattle.std.proofs.Common.{◌<◌, length, sym, subst}
+-- The log has a row, and fewer than 2^32, and it is that of the image.
+use Rattle.std.proofs.Common.{◌≡◌, ◌<◌, IfOk, length, sym, subst}
 use Rattle.domain_laws.specs.Made.{values_of}
-use Rattle.flow_worklist.specs.Analysis.{ImageLog}
+use Rattle.flow_worklist.specs.Analysis.{ImageLog, automaton_of}
 use Rattle.flow_worklist.proofs.Spelling.{log_has_row}
+use Rattle.jakstab_core.specs.Headline.{log_automaton}
 use Rattle.jakstab_core.proofs.recover.log_automaton.Goals as goal
 
 pub automaton_of-requires-clause-some : goal.automaton_of-requires-clause-some
@@ -12,3 +13,9 @@ automaton_of-requires-clause-some g c = λ lifetimes lives.
 
 pub automaton_of-requires-clause-few : goal.automaton_of-requires-clause-few
 automaton_of-requires-clause-few g c = λ lifetimes lives. c.in_ok-log.ensures.few
+
+pub returns : goal.returns
+unfolding log_automaton
+returns g c =
+    let P : ImageLog g.row.D.Denot → Type 0 = λ log. IfOk c.automaton_of.result (λ a. a ≡ automaton_of c.args.image.now log) in
+    subst P c.in_ok-log.ensures.log c.automaton_of.ensures

@@ -1,8 +1,10 @@
--- The log has a row, and fewer than 2^32.
-use Rattle.std.proofs.Common.{◌<◌, length, sym, subst}
+-- The log has a row, and fewer than 2^32, and it is that of the image.
+use Rattle.std.proofs.Common.{◌<◌, ◌∙◌, ℕ, ap, length, sym, subst}
 use Rattle.domain_laws.specs.Made.{values_of}
-use Rattle.flow_worklist.specs.Analysis.{ImageLog}
+use Rattle.flow_worklist.specs.Analysis.{ImageLog, automaton_of}
 use Rattle.flow_worklist.proofs.Spelling.{log_has_row}
+use Rattle.jakstab_core.specs.declared.summary.Counts.{Counts}
+use Rattle.jakstab_core.specs.Summary.{counted, log_counts}
 use Rattle.jakstab_core.proofs.summary.log_counts.Goals as goal
 
 pub automaton_of-requires-clause-some : goal.automaton_of-requires-clause-some
@@ -12,3 +14,17 @@ automaton_of-requires-clause-some g c = λ lifetimes lives.
 
 pub automaton_of-requires-clause-few : goal.automaton_of-requires-clause-few
 automaton_of-requires-clause-few g c = λ lifetimes lives. c.in_ok-log.ensures.few
+
+pub returns : goal.returns
+unfolding log_counts
+returns g c =
+    let image = c.args.image.now in
+    let log = c.in_ok-log.log in
+    let a = c.in_ok-automaton.automaton in
+    let counts : ℕ → ℕ → ℕ → ℕ → Counts = λ rows locations edges opens. record { rows = rows; locations = locations; edges = edges; opens = opens } in
+    ap (λ n. counts n (length c.as_slice.result.now) (length c.as_slice-2.result.now) (length c.as_slice-3.result.now)) (ap length c.rows.ensures)
+    ∙ ap (λ n. counts (length log.rows) n (length c.as_slice-2.result.now) (length c.as_slice-3.result.now)) (ap length c.as_slice.ensures)
+    ∙ ap (λ n. counts (length log.rows) (length a.locations) n (length c.as_slice-3.result.now)) (ap length c.as_slice-2.ensures)
+    ∙ ap (counts (length log.rows) (length a.locations) (length a.edges)) (ap length c.as_slice-3.ensures)
+    ∙ ap (counted log) c.in_ok-automaton.ensures
+    ∙ ap (λ (log : ImageLog g.row.D.Denot). counted log (automaton_of image log)) c.in_ok-log.ensures.log
