@@ -1,3 +1,5 @@
 pub mod Accesses
 pub mod Ending
 pub mod Next
+pub mod Filling
+pub mod Taking

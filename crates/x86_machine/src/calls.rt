@@ -77,12 +77,8 @@ fn map_block(cells: &mut Cells, alloc: Global, block: Option<Span>) -> Result<()
 fn put_fill(cells: &mut Cells, fill: &Fill)
     ensures { cells.new ≡ with_bytes (enumerate_from fill.now.at fill.now.bytes) cells.old }
 {
-    let mut at = u64::from(fill.at);
-    let mut left = fill.bytes.as_slice();
-    while let Some((first, rest)) = left.split_first() {
-        cells.put(at, *first);
-        at += 1;
-        left = rest;
+    for i in 0..fill.bytes.len() {
+        cells.put(u64::from(fill.at) + i as u64, fill.bytes.as_slice()[i]);
     }
 }
 

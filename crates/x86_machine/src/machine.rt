@@ -78,10 +78,10 @@ fn import(cells: &mut Cells, alloc: Global, stub: Option<&Stub>, choice: &Choice
     let Some(stub) = stub else {
         return Outcome::NoStub;
     };
-    if stub.reply == Reply::Never {
-        return Outcome::Exited;
+    match stub.reply {
+        Reply::Never => Outcome::Exited,
+        _ => call(cells, alloc, stub, choice),
     }
-    call(cells, alloc, stub, choice)
 }
 
 // The step of the instruction at EIP.
@@ -95,6 +95,7 @@ fn instruction(cells: &mut Cells, choice: &Choice) -> Outcome
             Ran::Faulted(kind) => Outcome::Faulted(kind),
         },
         Err(DecodeFault::Truncated) => Outcome::Faulted(FaultKind::Fetch),
-        Err(_) => Outcome::NotListed,
+        Err(DecodeFault::NotListed { .. }) => Outcome::NotListed,
+        Err(DecodeFault::TooLong) => Outcome::NotListed,
     }
 }

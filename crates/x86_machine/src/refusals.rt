@@ -156,14 +156,11 @@ fn may_fill(cells: &Cells, stub: &Stub, choice: &Choice, a: u64, b: u8) -> bool
 fn may_fill_each(cells: &Cells, stub: &Stub, choice: &Choice, fill: &Fill) -> bool
     ensures { result ≡ list_all (may_fill stub.now choice.now cells.now) (enumerate_from fill.now.at fill.now.bytes) }
 {
-    let mut at = u64::from(fill.at);
-    let mut left = fill.bytes.as_slice();
-    while let Some((first, rest)) = left.split_first() {
-        if !may_fill(cells, stub, choice, at, *first) {
+    for i in 0..fill.bytes.len() {
+        let at = u64::from(fill.at) + i as u64;
+        if !may_fill(cells, stub, choice, at, fill.bytes.as_slice()[i]) {
             return false;
         }
-        at += 1;
-        left = rest;
     }
     true
 }
