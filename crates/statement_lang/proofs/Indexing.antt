@@ -214,10 +214,12 @@ until_behind r rs a None apart off until =
 until_behind r rs a (Some end) apart off until =
     record {
       on = until.on;
-      each = record { each = λ c from to.
-          let writes = until.each.each c from to in
-          let lacks = apart_not_in r rs c (pairs_head r rs apart) (written_mapped rs c writes) in
-          may_write-passed r rs c (and_off r.write (has c r) lacks) ∙ writes };
+      each = record {
+        each = λ c from to.
+            let writes = until.each.each c from to in
+            let lacks = apart_not_in r rs c (pairs_head r rs apart) (written_mapped rs c writes) in
+            may_write-passed r rs c (and_off r.write (has c r) lacks) ∙ writes;
+      };
       none = tt;
     }
 
