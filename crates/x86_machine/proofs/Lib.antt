@@ -1,5 +1,8 @@
 pub mod Accesses
 pub mod Ending
 pub mod Next
-pub mod Filling
+pub mod Enumerated
 pub mod Taking
+pub mod Filled
+pub mod StatesMeet
+pub mod StatesStated

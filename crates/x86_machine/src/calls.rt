@@ -18,13 +18,7 @@ fn result_of(reply: Reply, choice: &Choice) -> u32
 {
     match reply {
         Reply::Number(n) => n,
-        Reply::Block { .. } => {
-            if choice.fails {
-                0
-            } else {
-                choice.base
-            }
-        }
+        Reply::Block { .. } => { if choice.fails { 0 } else { choice.base } }
         _ => choice.eax,
     }
 }

@@ -10,6 +10,7 @@ use std::alloc::{AllocError, Global};
 
 // The stack window reaches this far below the stack pointer, and this far above it.
 const STACK_BELOW: u32 = 1_048_576;
+
 const STACK_ABOVE: u32 = 4096;
 
 // The windows of fs and gs reach this far to either side of their bases.
