@@ -113,7 +113,6 @@ each_address P (r ∷ rs) each a h =
       | inr rest ↦ each_address P rs (λ p within. each (suc p) (omega (arith, within))) a rest
     ]
 
-
 one_passes : (P : ℕ → Type 0) (xs : List ℕ) → ((a : ℕ) → IsOne xs a → P a) → All P xs
 one_passes P [] each = All-nil P
 one_passes P (x ∷ xs) each = All-cons P x xs (each x (inl refl)) (one_passes P xs (λ a h. each a (inr h)))
@@ -307,24 +306,24 @@ module _ (image : Image) (m : MachineState) (loaded : IsLoaded image) (start : S
       λ a from to passes. in_left entries exit a (one_map (byte_of mem) free_addresses a (one_filter free (addresses mem) a passes (one_address mem p a within from to))) in
       let each : (i : ℕ) → i < length t.bytes → IsSameOrFilled (entries ++ exit) next t i =
       λ i few.
-          let a = next.low + i in
-          let at : r.low + i ≡ a = omega (arith, next_low) in
-          let from : t.low ≤ a = omega (arith, next_low, low) in
-          let to : a < end_of t = omega (arith, next_low, low, few) in
-          let away = has_exit_word image && is_in_span a (exit_word_span file) in
-          let some = list_any (has a) (windows file) || is_in_ranges a image.unset in
-          let open' : some ≡ true → IsSameOrFilled (entries ++ exit) next t i = λ yes. elim (cases_Bool away) [
-            | inl in' ↦ inr (in_right entries exit a (is_exit (has_exit_word image) a in'))
-            | inr out ↦ inr (listed a from to (and_from some (not away) yes (ap not out)))
-          ] in
-          elim (known i few) [
-            | inl window ↦ open' (or_left (list_any (has a) (windows file)) _ (ap (λ n. list_any (has n) (windows file)) (sym at) ∙ window))
-            | inr (inl unset_there) ↦ open' (or_right (list_any (has a) (windows file)) _ (ap (λ n. is_in_ranges n image.unset) (sym at) ∙ unset_there))
-            | inr (inr equal) ↦ elim (cases_Bool (is_in_ranges a image.unset)) [
-              | inl yes ↦ open' (or_right (list_any (has a) (windows file)) _ yes)
-              | inr no' ↦ inl (filled-other unset r i (λ h. false≢true (sym (ap (λ n. is_in_ranges n image.unset) at ∙ no') ∙ in_unset image.unset (r.low + i) h)) ∙ equal)
-            ]
-          ] in
+      let a = next.low + i in
+      let at : r.low + i ≡ a = omega (arith, next_low) in
+      let from : t.low ≤ a = omega (arith, next_low, low) in
+      let to : a < end_of t = omega (arith, next_low, low, few) in
+      let away = has_exit_word image && is_in_span a (exit_word_span file) in
+      let some = list_any (has a) (windows file) || is_in_ranges a image.unset in
+      let open' : some ≡ true → IsSameOrFilled (entries ++ exit) next t i = λ yes. elim (cases_Bool away) [
+        | inl in' ↦ inr (in_right entries exit a (is_exit (has_exit_word image) a in'))
+        | inr out ↦ inr (listed a from to (and_from some (not away) yes (ap not out)))
+      ] in
+      elim (known i few) [
+        | inl window ↦ open' (or_left (list_any (has a) (windows file)) _ (ap (λ n. list_any (has n) (windows file)) (sym at) ∙ window))
+        | inr (inl unset_there) ↦ open' (or_right (list_any (has a) (windows file)) _ (ap (λ n. is_in_ranges n image.unset) (sym at) ∙ unset_there))
+        | inr (inr equal) ↦ elim (cases_Bool (is_in_ranges a image.unset)) [
+          | inl yes ↦ open' (or_right (list_any (has a) (windows file)) _ yes)
+          | inr no' ↦ inl (filled-other unset r i (λ h. false≢true (sym (ap (λ n. is_in_ranges n image.unset) at ∙ no') ∙ in_unset image.unset (r.low + i) h)) ∙ equal)
+        ]
+      ] in
       ap (λ l. filled l r) (ap (λ l. unset ++ (l ++ exit)) (fills_are free_addresses))
       ∙ fold-append (λ (s : Range) (x : ℕ × ℕ). fill_byte x.0 x.1 s) r unset (entries ++ exit)
       ∙ filled_leads (entries ++ exit) next t (kept ∙ same) (agrees_both t entries exit (agrees_entries t free_addresses there) (agrees_exit t (has_exit_word image) refl there)) each

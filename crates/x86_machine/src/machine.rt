@@ -55,6 +55,13 @@ impl Machine {
         self.cells.fetch()
     }
 
+    /// The state of the machine.
+    pub fn cells(&self) -> &Cells
+        ensures { result.now ≡ self.now }
+    {
+        &self.cells
+    }
+
     /// Makes one step under a choice. Memory is taken for a block that an import hands out alone. On every outcome but
     /// `Stepped` the machine is as it was.
     pub fn step(&mut self, image: &Image, stubs: &Stubs, choice: &Choice) -> Outcome
