@@ -6,3 +6,4 @@ pub mod Taking
 pub mod Filled
 pub mod StatesMeet
 pub mod StatesStated
+pub mod Apart

@@ -1,11 +1,11 @@
 -- The state that a start file states is one from which a run may begin.
 use Rattle.std.proofs.Common.{◌≡◌, ℕ, zero, suc, ◌+◌, ◌-◌, ◌*◌, ◌%◌, ◌^◌, ◌<◌, ◌≤◌, Bool, true, false, cond, List, [], ◌∷◌, ◌++◌, map, length, get_or, Option, Some, None, Ok, Err, refl, sym, ◌∙◌, ap, subst, arith, inl, inr}
-use Rattle.std.specs.Prelude.{◌⊎◌, ◌&&◌, ◌||◌, not, flat_map, is_some, nat_le, nat_lt, position, replicate, slice_get, slice_index, slice_set, All, AllPairs, IsTrue}
+use Rattle.std.specs.Prelude.{◌⊎◌, ◌&&◌, ◌||◌, not, flat_map, is_some, nat_le, nat_lt, position, slice_get, slice_index, slice_set, All, AllPairs, IsTrue}
 use Rattle.std.specs.List.{AllZip, enumerate_from, list_all, list_any, position_or_len, range_with_len}
 use Rattle.std.specs.Option.{option_map}
 use Rattle.std.proofs.lemmas.Bool.{and_from, and_parts, cases_Bool, cases_lt, eqb-true, false≢true, le-leb, leb-true, lt-ltb, ltb-false, ltb-true, or_cases, or_left, or_right}
-use Rattle.std.proofs.lemmas.List.{append_assoc, get_or-append-add, get_or_append_left, get_or_at, length-append, length-map, length-replicate, map-append}
-use Rattle.std.proofs.lemmas.List.Elements.{All-append, All-cons, All-get_or, All-head, All-map, All-nil, All-replicate, All-set, All-tail, All-weaker}
+use Rattle.std.proofs.lemmas.List.{append_assoc, get_or-append-add, get_or_append_left, get_or_at, length-append, map-append}
+use Rattle.std.proofs.lemmas.List.Elements.{All-append, All-cons, All-get_or, All-head, All-map, All-nil, All-set, All-tail, All-weaker}
 use Rattle.std.proofs.lemmas.List.Sums.{fails_before_first, list_all-from_AllPass}
 use Rattle.std.proofs.lemmas.Option.{slice_get-get_or, slice_get_past}
 use Rattle.memory_map.specs.declared.choice.Fill.{Fill as Filling}
@@ -28,6 +28,7 @@ use Rattle.x86_machine.specs.declared.start_fault.StartFault.TheVariants.{Align,
 use Rattle.x86_machine.specs.declared.start_file.StartFile.{StartFile}
 use Rattle.x86_machine.specs.Started.{bare_state, base_window, exit_word, is_free_byte, is_free_fill, stack_pointer, stack_window, start_bytes, start_fault, start_state, started, state_unless, unset_zeros, windows, with_fills, zero_window}
 use Rattle.x86_machine.specs.StartLaws.{IsFill, IsStartFile, StatesMeetStart}
+use Rattle.x86_machine.proofs.Apart.{zeros_fit, zeros_size}
 use Rattle.x86_machine.proofs.Filled.{IsFilledIn, fill-here, filled, filled-mapping, filled-other, fills_each}
 
 -- ---- no fault
@@ -127,22 +128,22 @@ in_exit false at a h = absurd h
 
 pub window_in : (below above base a : ℕ) → below ≤ base → base ≤ a + below → a < base + above → has a (zero_window below above base) ≡ true
 window_in below above base a le low end =
-    let size = length-replicate (below + above) 0 in
+    let size = zeros_size (below + above) in
     has_in (zero_window below above base) a (omega (arith, low)) (omega (arith, end, size, le))
 
 pub window_base : (below above base : ℕ) → IsInUserSpace (zero_window below above base) → below ≤ base
 window_base below above base user = (let above' = user.above in omega (arith, above'))
 
 pub window_is : (below above base : ℕ) → below ≤ base → IsWindow below above base (zero_window below above base)
-window_is below above base le = record { low = omega (arith, le); size = length-replicate (below + above) 0; write = refl; execute = refl }
+window_is below above base le = record { low = omega (arith, le); size = zeros_size (below + above); write = refl; execute = refl }
 
 pub record WindowsLie (s : StartFile) : Type 0 where
   pub stack : IsInUserSpace (stack_window s)
   pub fs : IsInUserSpace (base_window s.fs)
   pub gs : IsInUserSpace (base_window s.gs)
 
-pub windows_lie : (s : StartFile) → list_all is_in_user_space (windows s) ≡ true → WindowsLie s
-windows_lie s all =
+pub lying : (s : StartFile) → list_all is_in_user_space (windows s) ≡ true → WindowsLie s
+lying s all =
     let one = and_parts (is_in_user_space (stack_window s)) _ all in
     let two = and_parts (is_in_user_space (base_window s.fs)) _ one.1 in
     let three = and_parts (is_in_user_space (base_window s.gs)) _ two.1 in
@@ -150,7 +151,7 @@ windows_lie s all =
 
 module _ (image : Image) (s : StartFile) (clear : IsClear image s) where
   pub lie : WindowsLie s
-  lie = windows_lie s clear.windows_lie
+  lie = lying s clear.windows_lie
 
   -- a byte is filled in where it is unset, or in a window
   pub filled_where : (a : ℕ) → IsFilledIn (start_bytes image s) a → (is_in_ranges a image.unset ≡ true) ⊎ (list_any (has a) (windows s) ≡ true)
@@ -291,13 +292,13 @@ module _ (image : Image) (s : StartFile) (clear : IsClear image s) where
   abbrev Fits : ℕ × ℕ → Type 0
   Fits at = at.1 < 256
 
-  zeros_fit : (n low : ℕ) → All Fits (map (λ b. (b, 0)) (range_with_len low n))
-  zeros_fit zero low = All-nil Fits
-  zeros_fit (suc n) low = All-cons Fits (low, 0) _ (omega arith) (zeros_fit n (low + 1))
+  span_fit : (n low : ℕ) → All Fits (map (λ b. (b, 0)) (range_with_len low n))
+  span_fit zero low = All-nil Fits
+  span_fit (suc n) low = All-cons Fits (low, 0) _ (omega arith) (span_fit n (low + 1))
 
   unset_fit : (unset : List Span) → All Fits (unset_zeros unset)
   unset_fit [] = All-nil Fits
-  unset_fit (u ∷ us) = All-append Fits (map (λ b. (b, 0)) (range_with_len u.low u.size)) (unset_zeros us) (zeros_fit u.size u.low) (unset_fit us)
+  unset_fit (u ∷ us) = All-append Fits (map (λ b. (b, 0)) (range_with_len u.low u.size)) (unset_zeros us) (span_fit u.size u.low) (unset_fit us)
 
   bytes_fit : (bytes : List ℕ) (n : ℕ) → All (λ b. b < 256) bytes → All Fits (enumerate_from n bytes)
   bytes_fit [] n all = All-nil Fits
@@ -382,7 +383,7 @@ module _ (image : Image) (s : StartFile) (clear : IsClear image s) where
       let base = window_base STACK_BELOW STACK_ABOVE (stack_pointer s) user in
       let same = filled-mapping (start_bytes image s) (stack_window s) in
       let low : stack_now.low ≡ stack_pointer s - STACK_BELOW = ap (λ (m : Mapping). m.low) same in
-      let size : length stack_now.bytes ≡ STACK_BELOW + STACK_ABOVE = ap (λ (m : Mapping). m.size) same ∙ length-replicate (STACK_BELOW + STACK_ABOVE) 0 in
+      let size : length stack_now.bytes ≡ STACK_BELOW + STACK_ABOVE = ap (λ (m : Mapping). m.size) same ∙ zeros_size (STACK_BELOW + STACK_ABOVE) in
       let at : stack_pointer s + k - stack_now.low ≡ STACK_BELOW + k = omega (arith, low, base) in
       byte_at-here stack_now (shaped image s clear).ranges (stack_pointer s + k) (has_in stack_now (stack_pointer s + k) (omega (arith, low, base)) (omega (arith, low, size, base, few)))
       ∙ ap (slice_get stack_now.bytes) at
@@ -393,7 +394,7 @@ module _ (image : Image) (s : StartFile) (clear : IsClear image s) where
   word_there asked is yes =
       let user = (lie image s clear).stack in
       let base = window_base STACK_BELOW STACK_ABOVE (stack_pointer s) user in
-      let size = length-replicate (STACK_BELOW + STACK_ABOVE) 0 in
+      let size = zeros_size (STACK_BELOW + STACK_ABOVE) in
       let esp = stack_pointer s in
       let unset = unset_zeros image.unset in
       let fills = bytes_of_fills s.fill in
@@ -422,7 +423,7 @@ module _ (image : Image) (s : StartFile) (clear : IsClear image s) where
       (All-cons IsInUserSpace (base_window s.fs) _ w.fs (All-cons IsInUserSpace (base_window s.gs) _ w.gs (All-nil IsInUserSpace))))
 
   window_bytes : (below above base : ℕ) → HasBytes (zero_window below above base)
-  window_bytes below above base = All-replicate (λ b. b < 256) (below + above) 0 (omega arith)
+  window_bytes below above base = zeros_fit (below + above)
 
   bytes_bare : IsLoaded image → All HasBytes (memory (bare_state image s))
   bytes_bare loaded =

@@ -1,10 +1,10 @@
 -- Each state from which a run may begin is stated by some start file: one that fills in each free byte by itself.
 use Rattle.std.proofs.Common.{◌≡◌, ℕ, zero, suc, ◌+◌, ◌-◌, ◌*◌, ◌%◌, ◌^◌, ◌<◌, ◌≤◌, Bool, true, false, cond, List, [], ◌∷◌, ◌++◌, drop, map, length, get_or, Option, Some, None, Ok, refl, sym, ◌∙◌, ap, subst, arith, inl, inr}
-use Rattle.std.specs.Prelude.{◌⊎◌, ◌&&◌, ◌||◌, ◌==◌, not, filter, flat_map, fold, nat_le, nat_lt, position, replicate, slice_get, unwrap_or, All, AllPairs}
+use Rattle.std.specs.Prelude.{◌⊎◌, ◌&&◌, ◌||◌, ◌==◌, not, filter, flat_map, fold, nat_le, nat_lt, position, slice_get, unwrap_or, All, AllPairs}
 use Rattle.std.specs.List.{AllZip, list_all, list_any, range_with_len}
 use Rattle.std.specs.Option.{option_map}
 use Rattle.std.proofs.lemmas.Bool.{and_from, and_parts, and_right, cases_Bool, cases_lt, eq-eqb, false≢true, le-leb, leb-true, lt-ltb, ltb-true, or_left, or_right}
-use Rattle.std.proofs.lemmas.List.{ext_get_or, get_or-append-add, get_or_append_left, get_or_at, get_or-map, length-append, length-map, length-replicate, map-append}
+use Rattle.std.proofs.lemmas.List.{ext_get_or, get_or-append-add, get_or_append_left, get_or_at, get_or-map, length-append, length-map, map-append}
 use Rattle.std.proofs.lemmas.List.Elements.{All-cons, All-from_get_or, All-get_or, All-head, All-map, All-nil, All-tail, All-weaker, AllZip-get_or, filter_passes, length_all_zip}
 use Rattle.std.proofs.lemmas.List.Quantifiers.{position-Some}
 use Rattle.std.proofs.lemmas.List.Sums.{list_all-from_AllPass}
@@ -32,6 +32,7 @@ use Rattle.x86_machine.specs.declared.start_fault.StartFault.{StartFault}
 use Rattle.x86_machine.specs.declared.start_file.StartFile.{StartFile}
 use Rattle.x86_machine.specs.Started.{bare_state, base_window, exit_word, exit_word_span, is_free_byte, is_free_fill, stack_pointer, stack_window, start_bytes, start_fault, start_state, started, state_unless, unset_zeros, windows, zero_window}
 use Rattle.x86_machine.specs.StartLaws.{IsFill, IsStartFile, StatesAreStated}
+use Rattle.x86_machine.proofs.Apart.{zeros_size}
 use Rattle.x86_machine.proofs.Enumerated.{fold-append}
 use Rattle.x86_machine.proofs.Filled.{AgreesWith, IsFilledIn, IsSameOrFilled, filled, filled-mapping, filled-other, filled_leads, fills_each}
 use Rattle.x86_machine.proofs.StatesMeet.{in_unset, window_in}
@@ -130,7 +131,7 @@ window_mapping : (below above base : ℕ) (w : Range) → IsWindow below above b
 window_mapping below above base w is =
     let low = is.low in
     let size = is.size in
-    let zeros = length-replicate (below + above) 0 in
+    let zeros = zeros_size (below + above) in
     same_mapping (zero_window below above base) w (omega (arith, low)) (omega (arith, size, zeros)) (sym is.write) (sym is.execute)
 
 held_mapping : (unset : List Span) (seg held : Range) → HoldsLoaded unset seg held → mapping_of seg ≡ mapping_of held

@@ -37,9 +37,12 @@ stack_pointer s = (stated_registers s.regs).esp
 
 -- ---- memory before anything is filled in
 
+unfoldable pub zeros : ℕ → List ℕ
+zeros n = replicate n 0
+
 -- a window of zeros round a base, which may be read and written
 abbrev pub zero_window : ℕ → ℕ → ℕ → Range
-zero_window below above base = record { low = base - below; bytes = replicate (below + above) 0; write = true; execute = false }
+zero_window below above base = record { low = base - below; bytes = zeros (below + above); write = true; execute = false }
 
 abbrev pub stack_window : StartFile → Range
 stack_window s = zero_window STACK_BELOW STACK_ABOVE (stack_pointer s)

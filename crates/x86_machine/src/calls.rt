@@ -57,6 +57,7 @@ fn zeros(alloc: Global, span: Span) -> Result<Block, AllocError>
 }
 
 // Maps the block of a call, where there is one; after a refusal nothing has changed.
+#[tactic(auto, using(crate::proofs::Apart::block_zeros))]
 fn map_block(cells: &mut Cells, alloc: Global, block: Option<Span>) -> Result<(), AllocError>
     requires some { IfSome block (λ s. 0 < s.size) }
     requires allowed { is_allowed cells.old (option_map (λ s. fresh_block s.low s.size) block) ≡ true }

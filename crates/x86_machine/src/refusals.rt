@@ -82,6 +82,7 @@ fn is_zeroed(reply: Reply) -> bool
 }
 
 // Whether a block may lie at these addresses.
+#[tactic(auto, using(crate::proofs::Apart::block_zeros))]
 fn may_lie(cells: &Cells, span: Span) -> bool
     requires { 0 < span.size }
     ensures { result ≡ may_lie cells.now (fresh_block span.low span.size) }
@@ -132,6 +133,7 @@ fn is_freed(cells: &Cells, stub: &Stub, a: u64) -> bool
 }
 
 // Whether a block may have a byte at an address.
+#[tactic(auto, using(crate::proofs::Apart::block_zeros))]
 fn may_hold(zeroed: bool, block: Option<Span>, a: u64, b: u8) -> bool
     ensures { result ≡ may_hold zeroed (option_map (λ s. fresh_block s.low s.size) block) (a, b) }
 {
