@@ -20,7 +20,7 @@ pub zeros_fit : (n : ℕ) → All (λ b. b < 256) (zeros n)
 unfolding zeros
 zeros_fit n = All-replicate (λ b. b < 256) n 0 (omega arith)
 
-pub block_zeros : (n : ℕ) → length (replicate n 0) ≡ n
+pub block_zeros : (n : ℕ) → length {A = ℕ} (replicate n 0) ≡ n
 block_zeros n = length-replicate n 0
 
 or_turned : (a b : Bool) → (a || b) ≡ (b || a)

@@ -187,6 +187,7 @@ module _ (image : Image) (s : StartFile) (clear : IsClear image s) where
       let gs = base_window s.gs in
       let rest = fs ∷ gs ∷ [] in
       let n = length segments in
+      let here = get_or (segments ++ rest) k nowhere in
       let pairs = pairs_apart (memory (bare_state image s)) clear.apart in
       let long = length-append segments rest in
       let seg : get_or (segments ++ rest) k nowhere ≡ get_or segments k nowhere = get_or_append_left segments rest nowhere k within in
@@ -197,11 +198,11 @@ module _ (image : Image) (s : StartFile) (clear : IsClear image s) where
       let fs_is : get_or (segments ++ rest) n nowhere ≡ fs = get_or_at segments fs (gs ∷ []) nowhere n refl in
       let gs_is : get_or (segments ++ rest) (n + 1) nowhere ≡ gs = get_or-append-add segments rest 1 nowhere in
       elim (or_cases (has a (stack_window s)) _ any) [
-        | inl in' ↦ apart_off (stack_window s) _ a first in' (at _ seg)
+        | inl in' ↦ apart_off (stack_window s) here a first in' (at here seg)
         | inr more ↦ elim (or_cases (has a fs) _ more) [
-          | inl in' ↦ apart_off _ _ a second (at _ seg) (ap (has a) fs_is ∙ in')
+          | inl in' ↦ apart_off here (get_or (segments ++ rest) n nowhere) a second (at here seg) (ap (has a) fs_is ∙ in')
           | inr last ↦ elim (or_cases (has a gs) false last) [
-            | inl in' ↦ apart_off _ _ a third (at _ seg) (ap (has a) gs_is ∙ in')
+            | inl in' ↦ apart_off here (get_or (segments ++ rest) (n + 1) nowhere) a third (at here seg) (ap (has a) gs_is ∙ in')
             | inr never ↦ absurd (false≢true never)
           ]
         ]
@@ -312,7 +313,7 @@ module _ (image : Image) (s : StartFile) (clear : IsClear image s) where
 
   exit_fit : (asked : Bool) (a : ℕ) → All Fits (exit_word asked a)
   exit_fit true a =
-      All-cons Fits (a, 0) _ (omega arith) (All-cons Fits (a + 1, 0) _ (omega arith) (All-cons Fits (a + 2, 0) _ (omega arith) (All-cons Fits (a + 3, 0xF0) _ (omega arith) (All-nil Fits))))
+      All-cons Fits (a, 0) ((a + 1, 0) ∷ (a + 2, 0) ∷ (a + 3, 0xF0) ∷ []) (omega arith) (All-cons Fits (a + 1, 0) ((a + 2, 0) ∷ (a + 3, 0xF0) ∷ []) (omega arith) (All-cons Fits (a + 2, 0) ((a + 3, 0xF0) ∷ []) (omega arith) (All-cons Fits (a + 3, 0xF0) [] (omega arith) (All-nil Fits))))
   exit_fit false a = All-nil Fits
 
   list_fits : IsStartFile s → All Fits list
@@ -391,7 +392,7 @@ module _ (image : Image) (s : StartFile) (clear : IsClear image s) where
       ∙ ap Some is
 
   word_there : (asked : Bool) → has_exit_word image ≡ asked → asked ≡ true → HasWord (memory (shaped image s clear)) (stack_pointer s) EXIT_PLACE
-  word_there asked is yes =
+  word_there asked is wanted =
       let user = (lie image s clear).stack in
       let base = window_base STACK_BELOW STACK_ABOVE (stack_pointer s) user in
       let size = zeros_size (STACK_BELOW + STACK_ABOVE) in
@@ -399,7 +400,7 @@ module _ (image : Image) (s : StartFile) (clear : IsClear image s) where
       let unset = unset_zeros image.unset in
       let fills = bytes_of_fills s.fill in
       let P : Bool → Type 0 = λ t. (k b : ℕ) → get_or (filled (unset ++ (fills ++ exit_word true esp)) (stack_window s)).bytes k 0 ≡ b → get_or (filled (unset ++ (fills ++ exit_word t esp)) (stack_window s)).bytes k 0 ≡ b in
-      let back = subst P (sym (is ∙ yes)) (λ k b e. e) in
+      let back = subst P (sym (is ∙ wanted)) (λ k b e. e) in
       let low : (stack_window s).low + STACK_BELOW ≡ esp = omega (arith, base) in
       let room : STACK_BELOW + 4 ≤ length (stack_window s).bytes = omega (arith, size) in
       let first : byte_at (memory (shaped image s clear)) (esp + 0) ≡ Some 0 = found_at 0 0 (omega arith) (back (STACK_BELOW + 0) 0 (byte0 unset fills (stack_window s) esp STACK_BELOW low room)) in
@@ -420,7 +421,7 @@ module _ (image : Image) (s : StartFile) (clear : IsClear image s) where
       let w = lie image s clear in
       All-cons IsInUserSpace (stack_window s) _ w.stack
       (All-append IsInUserSpace image.segments _ loaded.map.inside
-      (All-cons IsInUserSpace (base_window s.fs) _ w.fs (All-cons IsInUserSpace (base_window s.gs) _ w.gs (All-nil IsInUserSpace))))
+      (All-cons IsInUserSpace (base_window s.fs) (base_window s.gs ∷ []) w.fs (All-cons IsInUserSpace (base_window s.gs) [] w.gs (All-nil IsInUserSpace))))
 
   window_bytes : (below above base : ℕ) → HasBytes (zero_window below above base)
   window_bytes below above base = zeros_fit (below + above)
@@ -429,7 +430,7 @@ module _ (image : Image) (s : StartFile) (clear : IsClear image s) where
   bytes_bare loaded =
       All-cons HasBytes (stack_window s) _ (window_bytes STACK_BELOW STACK_ABOVE (stack_pointer s))
       (All-append HasBytes image.segments _ loaded.map.bytes
-      (All-cons HasBytes (base_window s.fs) _ (window_bytes BASE_REACH BASE_REACH s.fs) (All-cons HasBytes (base_window s.gs) _ (window_bytes BASE_REACH BASE_REACH s.gs) (All-nil HasBytes))))
+      (All-cons HasBytes (base_window s.fs) (base_window s.gs ∷ []) (window_bytes BASE_REACH BASE_REACH s.fs) (All-cons HasBytes (base_window s.gs) [] (window_bytes BASE_REACH BASE_REACH s.gs) (All-nil HasBytes))))
 
   pub shaped_starts : IsLoaded image → IsStartFile s → Start image (shaped image s clear)
   shaped_starts loaded file =

@@ -207,6 +207,14 @@ module _ (image : Image) (m : MachineState) (loaded : IsLoaded image) (start : S
     direction = false;
   }
 
+  bit_fits : (t : Bool) (b : ℕ) → b < 64 → bits_if t b < 2 ^ 6
+  bit_fits true b h = omega (arith, h)
+  bit_fits false b h = omega arith
+
+  flags_fit : packed_bits flag_bits < 64
+  flags_fit =
+      or_lt 6 _ _ (or_lt 6 _ _ (or_lt 6 _ _ (or_lt 6 _ _ (or_lt 6 _ _ (or_lt 6 _ _ (bit_fits m.flags.carry 1 (omega arith)) (bit_fits m.flags.parity 2 (omega arith))) (bit_fits m.flags.adjust 4 (omega arith))) (bit_fits m.flags.zero 8 (omega arith))) (bit_fits m.flags.sign 16 (omega arith))) (bit_fits m.flags.overflow 32 (omega arith))) (bit_fits false 64 (omega arith))
+
   abbrev file_with : List Filling → StartFile
   file_with fills = record {
     regs = m.registers.eax ∷ m.registers.ecx ∷ m.registers.edx ∷ m.registers.ebx ∷ m.registers.esp ∷ m.registers.ebp ∷ m.registers.esi ∷ m.registers.edi ∷ [];
@@ -215,6 +223,7 @@ module _ (image : Image) (m : MachineState) (loaded : IsLoaded image) (start : S
     gs = m.gs;
     fill = fills;
     choices = [];
+    six_flags = flags_fit;
   }
 
   abbrev free : ℕ → Bool
@@ -489,14 +498,6 @@ module _ (image : Image) (m : MachineState) (loaded : IsLoaded image) (start : S
       no_fault _ _ _ _ _ _ _ _ (eq-eqb (esp % image.align) 0 start.aligned) windows_pass (pairs_true (memory bare) (apart_mapped mem (memory bare) (sym same_memory) start.apart))
       (none_first (is_free_fill image file) (map fill_at free_addresses) fills_pass (position (λ f. not (is_free_fill image file f)) (map fill_at free_addresses)) refl)
 
-  bit_fits : (t : Bool) (b : ℕ) → b < 64 → bits_if t b < 2 ^ 6
-  bit_fits true b h = omega (arith, h)
-  bit_fits false b h = omega arith
-
-  flags_fit : packed_bits flag_bits < 64
-  flags_fit =
-      or_lt 6 _ _ (or_lt 6 _ _ (or_lt 6 _ _ (or_lt 6 _ _ (or_lt 6 _ _ (or_lt 6 _ _ (bit_fits m.flags.carry 1 (omega arith)) (bit_fits m.flags.parity 2 (omega arith))) (bit_fits m.flags.adjust 4 (omega arith))) (bit_fits m.flags.zero 8 (omega arith))) (bit_fits m.flags.sign 16 (omega arith))) (bit_fits m.flags.overflow 32 (omega arith))) (bit_fits false 64 (omega arith))
-
   address_fits : (a : ℕ) → IsOne (addresses mem) a → a < 2 ^ 32
   address_fits =
       each_address (λ a. a < 2 ^ 32) mem (λ p within a low end.
@@ -519,7 +520,6 @@ module _ (image : Image) (m : MachineState) (loaded : IsLoaded image) (start : S
       record {
         registers = refl;
         words = All-cons N _ _ w.eax (All-cons N _ _ w.ecx (All-cons N _ _ w.edx (All-cons N _ _ w.ebx (All-cons N _ _ w.esp (All-cons N _ _ w.ebp (All-cons N _ _ w.esi (All-cons N _ _ w.edi (All-nil N))))))));
-        flags = flags_fit;
         fs = w.fs;
         gs = w.gs;
         fill = All-map IsFill fill_at free_addresses (one_passes (λ a. IsFill (fill_at a)) free_addresses (λ a h. record {

@@ -14,11 +14,10 @@ pub record IsFill (f : Fill) : Type 0 where
   pub most : length f.bytes ≤ 1024
   pub bytes : All (λ b. b < 256) f.bytes
 
--- what every start file keeps: words, and six flags
+-- what every start file keeps beside its six flags: words, and fills
 pub record IsStartFile (s : StartFile) : Type 0 where
   pub registers : length s.regs ≡ 8
   pub words : All (λ n. n < 2 ^ 32) s.regs
-  pub flags : s.flags < 64
   pub fs : s.fs < 2 ^ 32
   pub gs : s.gs < 2 ^ 32
   pub fill : All IsFill s.fill

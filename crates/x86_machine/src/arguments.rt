@@ -1,4 +1,4 @@
-ghost use Rattle.std.specs.Prelude.{◌≡◌, ◌<◌, ◌+◌, ◌*◌, IfSome, option_map, option_to_list};
+ghost use Rattle.std.specs.Prelude.{◌≡◌, ◌<◌, ◌^◌, IfSome, option_map, option_to_list};
 ghost use Rattle.import_semantics.specs.StubDoes.{amount, argument, block_of, block_size, exit_spans, frame_size, fresh_block, has_frame, return_address, span_of, stack_word, target_of};
 
 use bit_words::Width;
@@ -9,11 +9,20 @@ use stub_file::{Amount, Reply, Stub, StubWrite};
 /// The bytes of a word.
 pub const WORD_BYTES: u32 = 4;
 
+/// ESP.
+pub fn stack_pointer(cells: &Cells) -> u64
+    ensures is { result ≡ cells.now.registers.esp }
+    ensures small { result < 2 ^ 32 }
+{
+    let registers = cells.registers();
+    u64::from(registers.esp)
+}
+
 // The word so many bytes above ESP; where none is mapped, 0.
 fn stack_word(cells: &Cells, above: u32) -> u32
     ensures { result ≡ stack_word above cells.now }
 {
-    let at = u64::from(cells.registers().esp) + u64::from(above);
+    let at = stack_pointer(cells) + u64::from(above);
     cells.word_at(Width::B32, at).unwrap_or(0)
 }
 
@@ -40,7 +49,8 @@ fn amount(cells: &Cells, counted: Amount) -> u32
 
 /// How many bytes the return address and the arguments have.
 pub fn frame_size(stub: &Stub) -> u64
-    ensures { result ≡ frame_size stub.now }
+    ensures size { result ≡ frame_size stub.now }
+    ensures small { result < 512 }
 {
     4 + u64::from(stub.args)
 }
@@ -49,7 +59,7 @@ pub fn frame_size(stub: &Stub) -> u64
 pub fn has_frame(cells: &Cells, stub: &Stub) -> bool
     ensures { result ≡ has_frame stub.now cells.now }
 {
-    cells.stack_holds(u64::from(cells.registers().esp), frame_size(stub))
+    cells.stack_holds(stack_pointer(cells), frame_size(stub))
 }
 
 /// The bytes of a write: none where its pointer or its length is 0.

@@ -1,5 +1,6 @@
 ghost use Rattle.std.specs.Prelude.{◌≡◌, ◌<◌, true, if◌then◌else◌, IfOk, IfSome, is_ok, option_map};
 ghost use Rattle.std.specs.List.{enumerate_from};
+ghost use Rattle.bit_words.specs.Width.{cut};
 ghost use Rattle.import_semantics.specs.StubDoes.{after_call, block_of, bytes_of_fills, fresh_block, is_allowed, registers_after, result_of, stack_after, stub_does, with_block, with_bytes, with_exit};
 ghost use Rattle.x86_machine.specs.StepBy.{outcome_of_stub};
 ghost use Rattle.x86_machine.specs.Taken.{Answers};
@@ -7,10 +8,25 @@ ghost use Rattle.x86_machine.specs.Taken.{Answers};
 use crate::Outcome;
 use crate::arguments::{WORD_BYTES, block_span, target_of};
 use crate::refusals::{bad_of, fault_of};
+use bit_words::Width;
 use memory_map::{Choice, Fill, Regs, Span, USER_END};
 use statement_lang::{Block, Cells, status_of};
 use std::alloc::{AllocError, Global};
 use stub_file::{Reply, Stub};
+
+// The base of a block, or 0 where the call fails.
+fn base_unless(fails: bool, base: u32) -> u32
+    ensures { result ≡ (if fails then 0 else base) }
+{
+    if fails { 0 } else { base }
+}
+
+// A number of 32 bits as one.
+fn word(n: u32) -> u32
+    ensures { result ≡ cut Width.B32 n }
+{
+    Width::B32.cut(n)
+}
 
 // EAX after a call.
 fn result_of(reply: Reply, choice: &Choice) -> u32
@@ -18,8 +34,10 @@ fn result_of(reply: Reply, choice: &Choice) -> u32
 {
     match reply {
         Reply::Number(n) => n,
-        Reply::Block { .. } => { if choice.fails { 0 } else { choice.base } }
-        _ => choice.eax,
+        Reply::Block { .. } => base_unless(choice.fails, choice.base),
+        Reply::Anything => word(choice.eax),
+        Reply::Never => word(choice.eax),
+        Reply::Enter(_) => word(choice.eax),
     }
 }
 
@@ -38,8 +56,8 @@ fn registers_after(stub: &Stub, choice: &Choice, before: Regs<u32>) -> Regs<u32>
 {
     Regs {
         eax: result_of(stub.reply, choice),
-        ecx: choice.ecx,
-        edx: choice.edx,
+        ecx: word(choice.ecx),
+        edx: word(choice.edx),
         ebx: before.ebx,
         esp: stack_after(stub, before.esp),
         ebp: before.ebp,

@@ -49,6 +49,7 @@ impl Machine {
     }
 
     /// The executable bytes at EIP, at most 15; takes no memory.
+    #[tactic(auto, unfolding(crate::specs::StepBy::fetched))]
     pub fn fetch(&self) -> ArrayVec<u8, 15>
         ensures { result.items ≡ fetched self.now }
     {

@@ -1,9 +1,11 @@
 ghost use Rattle.std.specs.Prelude.{◌≡◌, ◌<◌, IfSome, option_map};
 ghost use Rattle.std.specs.List.{enumerate_from, list_all, list_any};
 ghost use Rattle.memory_map.specs.Spans.{is_in_span};
-ghost use Rattle.import_semantics.specs.StubDoes.{bad_of, block_of, exit_spans, fault_of, filled_in, fresh_block, is_allowed, is_freed, is_zeroed, lacks_block, may_fail, may_fill, may_hold, may_lie, may_write_span, spans_of};
+ghost use Rattle.import_semantics.specs.StubDoes.{bad_of, block_of, exit_spans, fault_of, filled_in, fresh_block, is_allowed, is_freed, is_zeroed, lacks_block, may_fail, may_fill, may_hold, may_lie, may_write_span, span_of, spans_of};
 
-use crate::arguments::{block_size, block_span, exit_span, frame_size, has_frame, span_of};
+use crate::arguments::{
+    block_size, block_span, exit_span, frame_size, has_frame, span_of, stack_pointer,
+};
 use memory_map::{BadKind, Choice, FaultKind, Fill, Span, USER_END, USER_LOW};
 use statement_lang::Cells;
 use stub_file::{Reply, Stub};
@@ -19,6 +21,12 @@ fn may_write_span(cells: &Cells, span: Span) -> bool
 
 fn may_write_spans(cells: &Cells, stub: &Stub) -> bool
     ensures { result ≡ list_all (may_write_span cells.now) (spans_of stub.now cells.now) }
+{
+    may_write_each(cells, stub)
+}
+
+fn may_write_each(cells: &Cells, stub: &Stub) -> bool
+    ensures { result ≡ list_all (λ w. may_write_span cells.now (span_of cells.now w)) stub.now.writes.items }
 {
     stub.writes
         .as_slice()
@@ -117,6 +125,12 @@ fn is_in_exit(cells: &Cells, reply: Reply, a: u64) -> bool
 fn is_in_spans(cells: &Cells, stub: &Stub, a: u64) -> bool
     ensures { result ≡ list_any (is_in_span a) (spans_of stub.now cells.now) }
 {
+    is_in_one(cells, stub, a)
+}
+
+fn is_in_one(cells: &Cells, stub: &Stub, a: u64) -> bool
+    ensures { result ≡ list_any (λ w. is_in_span a (span_of cells.now w)) stub.now.writes.items }
+{
     stub.writes
         .as_slice()
         .iter()
@@ -127,7 +141,7 @@ fn is_in_spans(cells: &Cells, stub: &Stub, a: u64) -> bool
 fn is_freed(cells: &Cells, stub: &Stub, a: u64) -> bool
     ensures { result ≡ is_freed stub.now cells.now a }
 {
-    let end = u64::from(cells.registers().esp) + frame_size(stub);
+    let end = stack_pointer(cells) + frame_size(stub);
     !is_in_exit(cells, stub.reply, a)
         && (is_in_spans(cells, stub, a) || (cells.stack_has(a) && a < end))
 }
@@ -169,6 +183,12 @@ fn may_fill_each(cells: &Cells, stub: &Stub, choice: &Choice, fill: &Fill) -> bo
 
 fn may_fill_all(cells: &Cells, stub: &Stub, choice: &Choice) -> bool
     ensures { result ≡ list_all (may_fill stub.now choice.now cells.now) (filled_in choice.now) }
+{
+    may_fill_one_by_one(cells, stub, choice)
+}
+
+fn may_fill_one_by_one(cells: &Cells, stub: &Stub, choice: &Choice) -> bool
+    ensures { result ≡ list_all (λ f. list_all (may_fill stub.now choice.now cells.now) (enumerate_from f.at f.bytes)) choice.now.fill }
 {
     choice
         .fill

@@ -5,6 +5,6 @@ use Rattle.x86_machine.proofs.starting.with_segments.Given as goal
 
 abbrev pub invariant-loop-segment : goal.invariant-loop-segment
 invariant-loop-segment l = record {
-  mapped : l.mapped ≡ record l.cells { ranges = l.cells.ranges ++ map range_of (take l.segment-index l.segments) };
+  mapped : l.mapped ≡ record l.fn.cells { ranges = l.fn.cells.ranges ++ map range_of (take l.segment-index l.segments) };
   apart : all_apart (memory l.mapped) ≡ true;
 }
