@@ -7,3 +7,4 @@ pub mod Filled
 pub mod StatesMeet
 pub mod StatesStated
 pub mod Apart
+pub mod Placing

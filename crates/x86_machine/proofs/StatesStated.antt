@@ -187,6 +187,17 @@ no_fault a b c p x y z f is_a is_b is_c is_p =
 exit_bytes : (b0 b1 b2 b3 : ℕ) → b0 < 256 → b1 < 256 → b2 < 256 → b3 < 256 → EXIT_PLACE ≡ b0 + 256 * b1 + 65536 * b2 + 16777216 * b3 → (b0 ≡ 0) × (b1 ≡ 0) × (b2 ≡ 0) × (b3 ≡ 0xF0)
 exit_bytes b0 b1 b2 b3 h0 h1 h2 h3 is = (omega arith, omega arith, omega arith, omega arith)
 
+all_eight : (P : ℕ → Type 0) (a b c d e f g h : ℕ) → P a → P b → P c → P d → P e → P f → P g → P h → All P (a ∷ b ∷ c ∷ d ∷ e ∷ f ∷ g ∷ h ∷ [])
+all_eight P a b c d e f g h pa pb pc pd pe pf pg ph =
+    All-cons P a (b ∷ c ∷ d ∷ e ∷ f ∷ g ∷ h ∷ []) pa
+    (All-cons P b (c ∷ d ∷ e ∷ f ∷ g ∷ h ∷ []) pb
+    (All-cons P c (d ∷ e ∷ f ∷ g ∷ h ∷ []) pc
+    (All-cons P d (e ∷ f ∷ g ∷ h ∷ []) pd
+    (All-cons P e (f ∷ g ∷ h ∷ []) pe
+    (All-cons P f (g ∷ h ∷ []) pf
+    (All-cons P g (h ∷ []) pg
+    (All-cons P h [] ph (All-nil P))))))))
+
 -- ---- the file of a state
 
 module _ (image : Image) (m : MachineState) (loaded : IsLoaded image) (start : Start image m) where
@@ -213,7 +224,7 @@ module _ (image : Image) (m : MachineState) (loaded : IsLoaded image) (start : S
 
   flags_fit : packed_bits flag_bits < 64
   flags_fit =
-      or_lt 6 _ _ (or_lt 6 _ _ (or_lt 6 _ _ (or_lt 6 _ _ (or_lt 6 _ _ (or_lt 6 _ _ (bit_fits m.flags.carry 1 (omega arith)) (bit_fits m.flags.parity 2 (omega arith))) (bit_fits m.flags.adjust 4 (omega arith))) (bit_fits m.flags.zero 8 (omega arith))) (bit_fits m.flags.sign 16 (omega arith))) (bit_fits m.flags.overflow 32 (omega arith))) (bit_fits false 64 (omega arith))
+      or_lt 6 _ _ (or_lt 6 _ _ (or_lt 6 _ _ (or_lt 6 _ _ (or_lt 6 _ _ (or_lt 6 _ _ (bit_fits m.flags.carry 1 (omega arith)) (bit_fits m.flags.parity 2 (omega arith))) (bit_fits m.flags.adjust 4 (omega arith))) (bit_fits m.flags.zero 8 (omega arith))) (bit_fits m.flags.sign 16 (omega arith))) (bit_fits m.flags.overflow 32 (omega arith))) (omega arith)
 
   abbrev file_with : List Filling → StartFile
   file_with fills = record {
@@ -322,15 +333,15 @@ module _ (image : Image) (m : MachineState) (loaded : IsLoaded image) (start : S
       let to : a < end_of t = omega (arith, next_low, low, few) in
       let away = has_exit_word image && is_in_span a (exit_word_span file) in
       let some = list_any (has a) (windows file) || is_in_ranges a image.unset in
-      let open' : some ≡ true → IsSameOrFilled (entries ++ exit) next t i = λ yes. elim (cases_Bool away) [
+      let open' : some ≡ true → IsSameOrFilled (entries ++ exit) next t i = λ is_open. elim (cases_Bool away) [
         | inl in' ↦ inr (in_right entries exit a (is_exit (has_exit_word image) a in'))
-        | inr out ↦ inr (listed a from to (and_from some (not away) yes (ap not out)))
+        | inr out ↦ inr (listed a from to (and_from some (not away) is_open (ap not out)))
       ] in
       elim (known i few) [
         | inl window ↦ open' (or_left (list_any (has a) (windows file)) _ (ap (λ n. list_any (has n) (windows file)) (sym at) ∙ window))
         | inr (inl unset_there) ↦ open' (or_right (list_any (has a) (windows file)) _ (ap (λ n. is_in_ranges n image.unset) (sym at) ∙ unset_there))
         | inr (inr equal) ↦ elim (cases_Bool (is_in_ranges a image.unset)) [
-          | inl yes ↦ open' (or_right (list_any (has a) (windows file)) _ yes)
+          | inl unset_here ↦ open' (or_right (list_any (has a) (windows file)) _ unset_here)
           | inr no' ↦ inl (filled-other unset r i (λ h. false≢true (sym (ap (λ n. is_in_ranges n image.unset) at ∙ no') ∙ in_unset image.unset (r.low + i) h)) ∙ equal)
         ]
       ] in
@@ -509,17 +520,18 @@ module _ (image : Image) (m : MachineState) (loaded : IsLoaded image) (start : S
   one_of_filter p [] a h = h
   one_of_filter p (x ∷ xs) a h =
       elim (cases_Bool (p x)) [
-        | inl yes ↦ (let P : Bool → Type 0 = λ b. IsOne (cond b (x ∷ filter p xs) (filter p xs)) a in elim (subst P yes h) [ inl e ↦ inl e | inr rest ↦ inr (one_of_filter p xs a rest) ])
+        | inl passes ↦ (let P : Bool → Type 0 = λ b. IsOne (cond b (x ∷ filter p xs) (filter p xs)) a in elim (subst P passes h) [ inl e ↦ inl e | inr rest ↦ inr (one_of_filter p xs a rest) ])
         | inr off ↦ (let P : Bool → Type 0 = λ b. IsOne (cond b (x ∷ filter p xs) (filter p xs)) a in inr (one_of_filter p xs a (subst P off h)))
       ]
 
   file_kept : IsStartFile file
   file_kept =
       let w = start.words in
+      let g = m.registers in
       let N : ℕ → Type 0 = λ x. x < 2 ^ 32 in
       record {
         registers = refl;
-        words = All-cons N _ _ w.eax (All-cons N _ _ w.ecx (All-cons N _ _ w.edx (All-cons N _ _ w.ebx (All-cons N _ _ w.esp (All-cons N _ _ w.ebp (All-cons N _ _ w.esi (All-cons N _ _ w.edi (All-nil N))))))));
+        words = all_eight N g.eax g.ecx g.edx g.ebx g.esp g.ebp g.esi g.edi w.eax w.ecx w.edx w.ebx w.esp w.ebp w.esi w.edi;
         fs = w.fs;
         gs = w.gs;
         fill = All-map IsFill fill_at free_addresses (one_passes (λ a. IsFill (fill_at a)) free_addresses (λ a h. record {
