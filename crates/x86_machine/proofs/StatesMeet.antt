@@ -1,21 +1,21 @@
 -- The state that a start file states is one from which a run may begin.
-use Rattle.std.proofs.Common.{◌≡◌, ℕ, zero, suc, ◌+◌, ◌-◌, ◌*◌, ◌%◌, ◌^◌, ◌<◌, ◌≤◌, Bool, true, false, cond, List, [], ◌∷◌, ◌++◌, map, length, get_or, Option, Some, None, Ok, Err, refl, sym, ◌∙◌, ap, subst, arith, inl, inr}
-use Rattle.std.specs.Prelude.{◌⊎◌, ◌&&◌, ◌||◌, not, flat_map, is_some, nat_le, nat_lt, position, slice_get, slice_index, slice_set, All, AllPairs, IsTrue}
+use Rattle.std.proofs.Common.{◌≡◌, ℕ, zero, suc, ◌+◌, ◌-◌, ◌%◌, ◌^◌, ◌<◌, ◌≤◌, Bool, true, false, cond, List, [], ◌∷◌, ◌++◌, map, length, get_or, Option, Some, None, Ok, refl, sym, ◌∙◌, ap, subst, arith, inl, inr}
+use Rattle.std.specs.Prelude.{◌⊎◌, ◌||◌, not, nat_le, nat_lt, position, slice_get, slice_index, slice_set, All, IsTrue}
 use Rattle.std.specs.List.{AllZip, enumerate_from, list_all, list_any, position_or_len, range_with_len}
 use Rattle.std.specs.Option.{option_map}
-use Rattle.std.proofs.lemmas.Bool.{and_from, and_parts, cases_Bool, cases_lt, eqb-true, false≢true, le-leb, leb-true, lt-ltb, ltb-false, ltb-true, or_cases, or_left, or_right}
+use Rattle.std.proofs.lemmas.Bool.{and_from, and_parts, cases_Bool, cases_lt, eqb-true, false≢true, le-leb, lt-ltb, ltb-false, or_cases, or_left, or_right}
 use Rattle.std.proofs.lemmas.List.{append_assoc, get_or-append-add, get_or_append_left, get_or_at, length-append, map-append}
-use Rattle.std.proofs.lemmas.List.Elements.{All-append, All-cons, All-get_or, All-head, All-map, All-nil, All-set, All-tail, All-weaker}
+use Rattle.std.proofs.lemmas.List.Elements.{All-append, All-cons, All-head, All-map, All-nil, All-set, All-tail, All-weaker}
 use Rattle.std.proofs.lemmas.List.Sums.{fails_before_first, list_all-from_AllPass}
 use Rattle.std.proofs.lemmas.Option.{slice_get-get_or, slice_get_past}
 use Rattle.memory_map.specs.declared.choice.Fill.{Fill as Filling}
 use Rattle.memory_map.specs.declared.span.Span.{Span}
 use Rattle.memory_map.specs.Image.{EXIT_PLACE, Image, IsLoaded, has_exit_word}
 use Rattle.memory_map.specs.Map.{all_apart, is_in_user_space}
-use Rattle.memory_map.specs.Range.{AreApart, HasBytes, IsInUserSpace, Mapping, Range, byte_at, end_of, has, mapping_of}
+use Rattle.memory_map.specs.Range.{AreApart, HasBytes, IsInUserSpace, Mapping, Range, byte_at, has, mapping_of}
 use Rattle.memory_map.specs.Spans.{is_in_ranges, is_in_span}
-use Rattle.memory_map.specs.Start.{BASE_REACH, HasWord, HoldsLoaded, IsWindow, MapsExactly, STACK_ABOVE, STACK_BELOW, Start}
-use Rattle.memory_map.specs.State.{HasWords, MachineState, memory}
+use Rattle.memory_map.specs.Start.{BASE_REACH, HasWord, HoldsLoaded, IsWindow, STACK_ABOVE, STACK_BELOW, Start}
+use Rattle.memory_map.specs.State.{MachineState, memory}
 use Rattle.memory_map.proofs.Faults.{pairs_apart, user_space}
 use Rattle.memory_map.proofs.Lists.{byte_at-here}
 use Rattle.memory_map.proofs.Mappings.{apart_mapped, inside_mapped, is_in}
@@ -26,7 +26,7 @@ use Rattle.statement_lang.proofs.Indexing.{fill-mapping, has_in}
 use Rattle.x86_machine.specs.declared.start_fault.StartFault.{StartFault}
 use Rattle.x86_machine.specs.declared.start_fault.StartFault.TheVariants.{Align, Fill, Overlap, Window}
 use Rattle.x86_machine.specs.declared.start_file.StartFile.{StartFile}
-use Rattle.x86_machine.specs.Started.{bare_state, base_window, exit_word, is_free_byte, is_free_fill, stack_pointer, stack_window, start_bytes, start_fault, start_state, started, state_unless, unset_zeros, windows, with_fills, zero_window}
+use Rattle.x86_machine.specs.Started.{bare_state, base_window, exit_word, is_free_byte, is_free_fill, stack_pointer, stack_window, start_bytes, start_fault, start_state, state_unless, unset_zeros, windows, zero_window}
 use Rattle.x86_machine.specs.StartLaws.{IsFill, IsStartFile, StatesMeetStart}
 use Rattle.x86_machine.proofs.Apart.{zeros_fit, zeros_size}
 use Rattle.x86_machine.proofs.Filled.{IsFilledIn, fill-here, filled, filled-mapping, filled-other, fills_each}

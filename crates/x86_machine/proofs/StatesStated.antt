@@ -1,11 +1,11 @@
 -- Each state from which a run may begin is stated by some start file: one that fills in each free byte by itself.
 use Rattle.std.proofs.Common.{◌≡◌, ℕ, zero, suc, ◌+◌, ◌-◌, ◌*◌, ◌%◌, ◌^◌, ◌<◌, ◌≤◌, Bool, true, false, cond, List, [], ◌∷◌, ◌++◌, drop, map, length, get_or, Option, Some, None, Ok, refl, sym, ◌∙◌, ap, subst, arith, inl, inr}
-use Rattle.std.specs.Prelude.{◌⊎◌, ◌&&◌, ◌||◌, ◌==◌, not, filter, flat_map, fold, nat_le, nat_lt, position, slice_get, unwrap_or, All, AllPairs}
+use Rattle.std.specs.Prelude.{◌⊎◌, ◌&&◌, ◌||◌, not, filter, flat_map, nat_le, nat_lt, position, slice_get, unwrap_or, All, AllPairs}
 use Rattle.std.specs.List.{AllZip, list_all, list_any, range_with_len}
 use Rattle.std.specs.Option.{option_map}
-use Rattle.std.proofs.lemmas.Bool.{and_from, and_parts, and_right, cases_Bool, cases_lt, eq-eqb, false≢true, le-leb, leb-true, lt-ltb, ltb-true, or_left, or_right}
+use Rattle.std.proofs.lemmas.Bool.{and_from, and_parts, cases_Bool, cases_lt, eq-eqb, false≢true, le-leb, leb-true, ltb-true, or_left, or_right}
 use Rattle.std.proofs.lemmas.List.{ext_get_or, get_or-append-add, get_or_append_left, get_or_at, get_or-map, length-append, length-map, map-append}
-use Rattle.std.proofs.lemmas.List.Elements.{All-cons, All-from_get_or, All-get_or, All-head, All-map, All-nil, All-tail, All-weaker, AllZip-get_or, filter_passes, length_all_zip}
+use Rattle.std.proofs.lemmas.List.Elements.{All-cons, All-get_or, All-map, All-nil, All-weaker, AllZip-get_or, filter_passes, length_all_zip}
 use Rattle.std.proofs.lemmas.List.Quantifiers.{position-Some}
 use Rattle.std.proofs.lemmas.List.Sums.{list_all-from_AllPass}
 use Rattle.std.proofs.lemmas.Nat.{or_lt}
@@ -13,11 +13,10 @@ use Rattle.std.proofs.lemmas.Option.{slice_get-get_or, unwrap_or-slice_get}
 use Rattle.bit_words.specs.Flags.{FlagBits, bits_if, packed_bits}
 use Rattle.bit_words.proofs.FlagLaws.{unpacked-packed}
 use Rattle.memory_map.specs.declared.choice.Fill.{Fill as Filling}
-use Rattle.memory_map.specs.declared.registers.Regs.{Regs}
 use Rattle.memory_map.specs.declared.span.Span.{Span}
 use Rattle.memory_map.specs.Image.{EXIT_PLACE, Image, IsLoaded, has_exit_word}
 use Rattle.memory_map.specs.Map.{all_apart, are_apart, is_in_user_space}
-use Rattle.memory_map.specs.Range.{AreApart, HasBytes, IsInUserSpace, Mapping, Range, USER_END, USER_LOW, byte_at, end_of, has, mapping_of}
+use Rattle.memory_map.specs.Range.{AreApart, IsInUserSpace, Mapping, Range, USER_END, USER_LOW, end_of, has, mapping_of}
 use Rattle.memory_map.specs.Spans.{is_in_ranges, is_in_span}
 use Rattle.memory_map.specs.Start.{BASE_REACH, HasWord, HoldsLoaded, IsWindow, STACK_ABOVE, STACK_BELOW, Start}
 use Rattle.memory_map.specs.State.{Flags, MachineState, memory}
@@ -30,12 +29,12 @@ use Rattle.statement_lang.specs.Indexed.{nowhere}
 use Rattle.statement_lang.proofs.Indexing.{byte_placed, has_in}
 use Rattle.x86_machine.specs.declared.start_fault.StartFault.{StartFault}
 use Rattle.x86_machine.specs.declared.start_file.StartFile.{StartFile}
-use Rattle.x86_machine.specs.Started.{bare_state, base_window, exit_word, exit_word_span, is_free_byte, is_free_fill, stack_pointer, stack_window, start_bytes, start_fault, start_state, started, state_unless, unset_zeros, windows, zero_window}
+use Rattle.x86_machine.specs.Started.{bare_state, base_window, exit_word, exit_word_span, is_free_byte, is_free_fill, stack_window, start_bytes, start_fault, start_state, started, state_unless, unset_zeros, windows, zero_window}
 use Rattle.x86_machine.specs.StartLaws.{IsFill, IsStartFile, StatesAreStated}
 use Rattle.x86_machine.proofs.Apart.{zeros_size}
 use Rattle.x86_machine.proofs.Enumerated.{fold-append}
 use Rattle.x86_machine.proofs.Filled.{AgreesWith, IsFilledIn, IsSameOrFilled, filled, filled-mapping, filled-other, filled_leads, fills_each}
-use Rattle.x86_machine.proofs.StatesMeet.{in_unset, window_in}
+use Rattle.x86_machine.proofs.StatesMeet.{in_unset}
 
 -- ---- addresses of a list
 

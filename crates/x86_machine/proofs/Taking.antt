@@ -1,6 +1,6 @@
 -- What a step's answer says, by what stands at EIP.
-use Rattle.std.proofs.Common.{◌≡◌, ℕ, ◌+◌, ◌<◌, Bool, true, List, ◌++◌, length, take, drop, Option, Some, None, Ok, Err, refl, sym, ◌∙◌, ap, subst, inl, inr, append_assoc, arith}
-use Rattle.std.specs.Prelude.{◌≢◌, Result, MatchBool}
+use Rattle.std.proofs.Common.{◌≡◌, ℕ, ◌+◌, ◌<◌, Bool, List, ◌++◌, length, take, drop, Option, Some, None, Ok, Err, refl, sym, ◌∙◌, ap, subst, inl, inr, append_assoc, arith}
+use Rattle.std.specs.Prelude.{Result, MatchBool}
 use Rattle.std.proofs.lemmas.Bool.{eq-eqb}
 use Rattle.std.proofs.lemmas.List.{take-append-drop, take_all}
 use Rattle.memory_map.specs.declared.choice.Choice.{Choice}
@@ -14,7 +14,7 @@ use Rattle.x86_syntax.specs.Decodes.{decoded}
 use Rattle.x86_syntax.specs.Spelling.{spelled}
 use Rattle.x86_decoder.specs.Refusals.{GoesOn, IsFront, LeavesAt}
 use Rattle.x86_semantics.specs.Does.{does, ended}
-use Rattle.x86_semantics.specs.Operands.{Ended, Faulted, Next}
+use Rattle.x86_semantics.specs.Operands.{Faulted, Next}
 use Rattle.x86_machine.specs.declared.outcome.Outcome.{Outcome}
 use Rattle.x86_machine.specs.declared.outcome.Outcome.TheVariants as outcomes
 use Rattle.x86_machine.specs.StepBy.{AtInstr, AtName, NoInstr, StepBy, StepEnd, exited, faulted, fetched, not_listed, outcome_of, stepped}

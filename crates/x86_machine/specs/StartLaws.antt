@@ -1,5 +1,5 @@
 -- Start files and the states from which a run may begin.
-use Rattle.std.specs.Prelude.{ℕ, ◌≡◌, ◌<◌, ◌≤◌, ◌^◌, length, All, Ok}
+use Rattle.std.specs.Prelude.{◌≡◌, ◌<◌, ◌≤◌, ◌^◌, length, All, Ok}
 use Rattle.memory_map.specs.declared.choice.Fill.{Fill}
 use Rattle.memory_map.specs.Image.{Image, IsLoaded}
 use Rattle.memory_map.specs.Start.{Start}

@@ -1,4 +1,5 @@
 use crate::{Machine, Outcome, StartFault, StartFile};
+use bitflags::Flags as _;
 use image_loader::Image;
 use memory_map::{
     BadKind, Bytes, Choice, FaultKind, Fill, Format, ImportName, Items, Name, Perm, Ranges,
@@ -62,7 +63,7 @@ const STEPS: &str = "\
 0|08048000|B8 05 00||||Faulted Fetch|
 0|08048000|D6||||NotListed|
 0|08048000|66 66 66 66 66 66 66 66 66 66 66 66 81 C0 00 00||||NotListed|
-0|00001000|90||||NotListed|
+0|00001000|90||||Faulted Fetch|
 0|08048000|A1 00 00 00 00||||Faulted Read|
 0|08048000|A2 00 C0 04 08||||Faulted Write|
 0|08048000|F7 F1||||Faulted Divide|

@@ -1,4 +1,4 @@
-use Rattle.std.proofs.Common.{◌≡◌, ◌∙◌, refl, sym}
+use Rattle.std.proofs.Common.{◌∙◌, refl, sym}
 use Rattle.x86_machine.specs.StepBy.{fetched}
 use Rattle.x86_machine.proofs.Taking.{instr_ends, instr_faulted, instr_next, instr_unlisted, leaves_ends}
 use Rattle.x86_machine.proofs.machine.instruction.Goals as goal

@@ -1,12 +1,10 @@
 use Rattle.std.proofs.Common.{◌≡◌, ◌%◌, ◌∙◌, Err, None, Ok, Some, ap, inl, inr, sym, ⊎_elim}
-use Rattle.std.specs.Prelude.{not, position}
-use Rattle.std.specs.List.{list_all}
 use Rattle.std.proofs.lemmas.Result.{err_from_is_err_and}
 use Rattle.memory_map.specs.Image.{is_pe}
-use Rattle.memory_map.specs.Map.{all_apart, is_in_user_space}
+use Rattle.memory_map.specs.Map.{all_apart}
 use Rattle.memory_map.specs.State.{MachineState, memory}
 use Rattle.import_semantics.specs.StubDoes.{bytes_of_fills}
-use Rattle.x86_machine.specs.Started.{exit_word, is_free_fill, stack_pointer, unset_zeros, windows, with_fills}
+use Rattle.x86_machine.specs.Started.{exit_word, stack_pointer, unset_zeros, with_fills}
 use Rattle.x86_machine.proofs.Placing.{filled_as, filled_state, off_align, windows_leave, windows_share}
 use Rattle.x86_machine.proofs.starting.start_cells.Goals as goal
 

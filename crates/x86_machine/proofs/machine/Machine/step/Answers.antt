@@ -1,7 +1,7 @@
-use Rattle.std.proofs.Common.{◌≡◌, ◌∙◌, ℕ, List, Option, None, Some, ap, refl, subst, sym}
+use Rattle.std.proofs.Common.{◌≡◌, ◌∙◌, ℕ, List, Option, ap, refl, subst, sym}
 use Rattle.memory_map.specs.Image.{name_at}
 use Rattle.memory_map.specs.State.{MachineState}
-use Rattle.x86_machine.specs.StepBy.{AtInstr, AtName, StepBy, StepEnd, fetched, import_outcome}
+use Rattle.x86_machine.specs.StepBy.{AtInstr, AtName, StepBy, fetched, import_outcome}
 use Rattle.x86_machine.specs.Taken.{Answers}
 use Rattle.x86_syntax.specs.Decodes.{decoded}
 use Rattle.std.specs.Prelude.{option_copied}
