@@ -3,6 +3,7 @@ pub mod Spans
 pub mod Patch
 pub mod Map
 pub mod Name
+pub mod Fill
 pub mod FileBytes
 pub mod Alignment
 pub mod Image

@@ -1,10 +1,10 @@
-use crate::{Bytes, Items};
+use crate::{FillBytes, Items};
 
 /// Bytes to put from an address on, where a step or a start leaves them free.
 #[derive(Drop)]
 pub struct Fill {
     pub at: u32,
-    pub bytes: Bytes,
+    pub bytes: FillBytes,
 }
 
 /// What a step leaves open, chosen. A step ignores the fields that it does not use.

@@ -200,7 +200,11 @@ fn small_types_give_back_what_they_hold(rt: HostRuntime) -> Result<(), Fail> {
     assert_eq!(rt; bytes.len(), 2);
     assert!(rt; !bytes.is_empty());
     assert_eq!(rt; bytes.into_vec().as_slice(), [7, 8].as_slice());
-    let items: Items<u32> = Items::from_vec([3, 1].to_vec(alloc)?);
+    let mut items = Items::new(alloc);
+    for n in [3, 1, 2] {
+        items.push(n)?;
+    }
+    assert_eq!(rt; items.pop(), Some(2));
     assert_eq!(rt; items.len(), 2);
     assert_eq!(rt; items.as_slice(), [3, 1].as_slice());
     assert_eq!(rt; items.into_vec().as_slice(), [3, 1].as_slice());
@@ -242,5 +246,17 @@ fn an_address_is_in_a_range_from_its_low_to_below_its_end(rt: HostRuntime) -> Re
         assert_eq!(rt; ranges.has(a), want, "at {a}");
     }
     assert_eq!(rt; ranges.into_vec().len(), 3);
+    Ok(())
+}
+
+#[test]
+fn fills_have_1_to_1024_bytes(rt: HostRuntime) -> Result<(), Fail> {
+    let alloc = rt.alloc();
+    for (size, want) in [(0, false), (1, true), (1024, true), (1025, false)] {
+        let fill = FillBytes::new(vec![in alloc; 7; size]?);
+        assert_eq!(rt; fill.is_some(), want, "{size}");
+    }
+    let fill = FillBytes::new([7, 8].to_vec(alloc)?).ok_or("no fill")?;
+    assert_eq!(rt; fill.copy(alloc)?.as_slice(), [7, 8].as_slice());
     Ok(())
 }
