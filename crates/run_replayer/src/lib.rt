@@ -1,0 +1,12 @@
+// Recorded runs of the machine: the start file, the run record, and the verdict of a record replayed against an automaton.
+// It stands on x86_machine, automaton_text, image_loader, stub_file, memory_map and text_fields.
+// Its contract: `specs/` has the texts with their grammars, `RecordOf` and `VerdictOf`; each call gives exactly what these say.
+#![tactic(auto)]
+
+mod print;
+mod record;
+mod verdict;
+
+pub use print::print_record;
+pub use record::{EndWord, RunRecord, RunStep};
+pub use verdict::{RunKind, Verdict, verdict_line};
