@@ -19,7 +19,7 @@ use Rattle.stub_file.specs.declared.stub.Reply.TheVariants.{Anything, Block, Ent
 use Rattle.stub_file.specs.declared.stub.Stub.{Stub}
 use Rattle.stub_file.specs.Stubs.{StatedStubs, stub_named}
 use Rattle.import_semantics.specs.StubDoes.{StubEnd, Bad, Faulted, Returned, stub_does}
-use Rattle.x86_machine.specs.StepBy.{Outcome, StepBy, AtName, AtInstr, stepped, exited, fetched, import_outcome, outcome_of, outcome_of_stub, unless_never}
+use Rattle.x86_machine.specs.StepBy.{StepEnd, StepBy, AtName, AtInstr, stepped, exited, fetched, import_outcome, outcome_of, outcome_of_stub, unless_never}
 use Rattle.x86_machine.specs.Machine.{machine_of, edge_of, label_at, label_by, instr_bytes}
 use Rattle.flow_log.specs.declared.cause.Cause.{Cause}
 use Rattle.flow_log.specs.declared.cause.Cause.TheVariants as causes

@@ -4,6 +4,7 @@ use Rattle.std.specs.List.{enumerate_from, list_all, list_any}
 use Rattle.bit_words.specs.declared.width.Width.TheVariants.{B8, B32}
 use Rattle.bit_words.specs.Width.{cut}
 use Rattle.memory_map.specs.declared.choice.Choice.{Choice}
+use Rattle.memory_map.specs.declared.choice.Fill.{Fill}
 use Rattle.memory_map.specs.declared.fault.BadKind.{BadKind}
 use Rattle.memory_map.specs.declared.fault.BadKind.TheVariants as bad
 use Rattle.memory_map.specs.declared.fault.FaultKind.{FaultKind}
@@ -137,9 +138,13 @@ abbrev pub may_hold : Bool → Option Range → ℕ × ℕ → Bool
 may_hold zeroed None filled = false
 may_hold zeroed (Some r) filled = has filled.0 r && (not zeroed || filled.1 == 0)
 
--- the bytes that a choice fills in, each with its address, in order
+-- the bytes of fills, each with its address, in order
+abbrev pub bytes_of_fills : List Fill → List (ℕ × ℕ)
+bytes_of_fills fills = flat_map (λ f. enumerate_from f.at f.bytes) fills
+
+-- those that a choice fills in
 abbrev pub filled_in : Choice → List (ℕ × ℕ)
-filled_in choice = flat_map (λ f. enumerate_from f.at f.bytes) choice.fill
+filled_in choice = bytes_of_fills choice.fill
 
 abbrev pub may_fill : Stub → Choice → MachineState → ℕ × ℕ → Bool
 may_fill stub choice m filled = is_freed stub m filled.0 || may_hold (is_zeroed stub.reply) (block_of stub.reply choice m) filled

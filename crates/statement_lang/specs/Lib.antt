@@ -1,3 +1,4 @@
 pub mod Run
 pub mod Cells
 pub mod Flowing
+pub mod Indexed

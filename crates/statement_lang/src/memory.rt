@@ -27,6 +27,16 @@ impl Cells {
         }
     }
 
+    /// The word of a width at an address, where it is mapped: none is from 2^32 on.
+    pub fn word_at(&self, w: Width, a: u64) -> Option<u32>
+        ensures { result ≡ word_at w a self.now }
+    {
+        if a > u64::from(u32::MAX) {
+            return None;
+        }
+        self.load(w, a as u32)
+    }
+
     #[tactic(auto, unfolding(x86_semantics::specs::Memory::number_at))]
     fn number_of_one(&self, a: u32) -> Option<u32>
         ensures value { result ≡ number_at (memory self.now) 1 a }
@@ -79,14 +89,14 @@ impl Cells {
         true
     }
 
-    // Puts the low bytes of a number from an address on.
-    fn put_number(&mut self, count: u32, a: u32, v: u32)
+    /// Puts the low bytes of a number from an address on, where they may be written.
+    pub fn put_number(&mut self, count: u32, a: u32, v: u32)
         ensures { self.new ≡ with_number count a v self.old }
     {
         let mut at = a;
         let mut left = v;
         for _i in 0..count {
-            self.put(at, (left % 256) as u8);
+            self.put(u64::from(at), (left % 256) as u8);
             at = next_byte(at);
             left /= 256;
         }
