@@ -1,0 +1,4 @@
+pub mod Making
+pub mod Searching
+pub mod Replays
+pub mod FieldFacts

@@ -48,14 +48,13 @@ end_of field = find (λ end. bytes_eq (end_word end) field) end_words
 -- ---- fields one after another
 
 -- a field of this form, and then what its value makes of the fields behind it
-abbrev pub then_field : {A B : Type 0} → (List ℕ → Option A) → List (List ℕ) → (A → List (List ℕ) → Option B) → Option B
+unfoldable pub then_field : {A B : Type 0} → (List ℕ → Option A) → List (List ℕ) → (A → List (List ℕ) → Option B) → Option B
 then_field form [] go = None
 then_field form (field ∷ others) go = option_and_then (λ a. go a others) (form field)
 
 -- and no more
 abbrev pub no_more : {A : Type 0} → A → List (List ℕ) → Option A
-no_more a [] = Some a
-no_more a (field ∷ others) = None
+no_more a fs = if length fs == 0 then Some a else None
 
 -- EAX ECX EDX EBX ESP EBP ESI EDI
 unfoldable pub regs_of : List (List ℕ) → Option (List ℕ)
@@ -64,11 +63,11 @@ regs_of fs =
     then_field word_of fs (λ esp fs. then_field word_of fs (λ ebp fs. then_field word_of fs (λ esi fs. then_field word_of fs (λ edi fs.
     no_more (eax ∷ ecx ∷ edx ∷ ebx ∷ esp ∷ ebp ∷ esi ∷ edi ∷ []) fs))))))))
 
-abbrev pub six_flags_of : List (List ℕ) → Option ℕ
+unfoldable pub six_flags_of : List (List ℕ) → Option ℕ
 six_flags_of fs = then_field flags_of fs (λ flags fs. no_more flags fs)
 
 -- FS GS
-abbrev pub bases_of : List (List ℕ) → Option (ℕ × ℕ)
+unfoldable pub bases_of : List (List ℕ) → Option (ℕ × ℕ)
 bases_of fs = then_field word_of fs (λ base fs. then_field word_of fs (λ other fs. no_more (base, other) fs))
 
 -- an address and bytes
@@ -88,5 +87,5 @@ step_of fs =
     then_field word_of fs (λ from fs. then_field word_of fs (λ to fs. option_map (λ choice. record { from = from; to = to; choice = choice }) (choice_of fs)))
 
 -- the word of a record's end
-abbrev pub ending_of : List (List ℕ) → Option EndWord
+unfoldable pub ending_of : List (List ℕ) → Option EndWord
 ending_of fs = then_field end_of fs (λ end fs. no_more end fs)

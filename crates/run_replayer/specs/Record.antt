@@ -6,9 +6,11 @@ use Rattle.memory_map.specs.State.{MachineState}
 use Rattle.stub_file.specs.Stubs.{StatedStubs}
 use Rattle.x86_machine.specs.declared.start_file.StartFile.{StartFile}
 use Rattle.x86_machine.specs.Started.{started}
-use Rattle.x86_machine.specs.StepBy.{Outcome, StepBy, stepped, faulted, not_listed, no_stub, exited, bad_choice}
+use Rattle.x86_machine.specs.StepBy.{StepEnd, StepBy, stepped, faulted, not_listed, no_stub, exited, bad_choice}
 use Rattle.run_replayer.specs.declared.record.EndWord.{EndWord}
 use Rattle.run_replayer.specs.declared.record.EndWord.TheVariants as ends
+use Rattle.run_replayer.specs.declared.run.Next.{Next}
+use Rattle.run_replayer.specs.declared.run.Next.TheVariants.{End, Step}
 use Rattle.run_replayer.specs.declared.record.RunStep.{RunStep}
 use Rattle.run_replayer.specs.declared.record.RunRecord.{RunRecord}
 
@@ -27,7 +29,7 @@ later_choices [] = []
 later_choices (choice ∷ choices) = choices
 
 -- the word of an outcome that is no step
-abbrev pub word_of : Outcome → Option EndWord
+abbrev pub word_of : StepEnd → Option EndWord
 word_of (stepped next) = None
 word_of (faulted kind) = Some ends.Faulted
 word_of not_listed = Some ends.NotListed
@@ -41,9 +43,14 @@ step_of m choice next = record { from = m.eip; to = next.eip; choice = choice }
 
 -- the machine stops where it is, for this word
 pub record Stops (image : Image) (stubs : StatedStubs) (choice : Choice) (m : MachineState) (end : EndWord) : Type 0 where
-  pub outcome : Outcome
+  pub outcome : StepEnd
   pub comes : StepBy image stubs choice m outcome
   pub word : word_of outcome ≡ Some end
+
+-- what a call tells that makes one step: the step that was made, which leads to the new state, or why there is none
+abbrev pub IsNext : Image → StatedStubs → Choice → MachineState → Next → MachineState → Type 0
+IsNext image stubs choice m (Step s) new = StepBy image stubs choice m (stepped new) × (s ≡ step_of m choice new)
+IsNext image stubs choice m (End end) new = Stops image stubs choice m end
 
 -- the first of these steps is the machine's, and the others are made from where it leads
 pub record GoesOn (image : Image) (stubs : StatedStubs) (choice : Choice) (m : MachineState) (steps : List RunStep) (Rest : MachineState → List RunStep → Type 0) : Type 0 where

@@ -3,10 +3,25 @@
 // Its contract: `specs/` has the texts with their grammars, `RecordOf` and `VerdictOf`; each call gives exactly what these say.
 #![tactic(auto)]
 
+mod fields;
+mod head;
+mod index;
 mod print;
 mod record;
+mod record_reader;
+mod replay;
+mod run;
+mod run_fault;
+mod six_flags;
+mod sorted;
+mod start_reader;
 mod verdict;
 
 pub use print::print_record;
 pub use record::{EndWord, RunRecord, RunStep};
+pub use record_reader::{RecordReader, read_record};
+pub use replay::replay;
+pub use run::run_machine;
+pub use run_fault::RunFault;
+pub use start_reader::{StartReader, read_start};
 pub use verdict::{RunKind, Verdict, verdict_line};

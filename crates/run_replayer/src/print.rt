@@ -146,7 +146,7 @@ fn push_steps(out: &mut Vec<u8>, steps: &[RunStep]) -> Result<(), NoMemory>
     Ok(())
 }
 
-fn end_word(end: EndWord) -> &'static [u8]
+pub(crate) fn end_word(end: EndWord) -> &'static [u8]
     ensures { result.now ≡ end_word end }
 {
     match end {

@@ -1,0 +1,279 @@
+ghost use Rattle.std.specs.Prelude.{◌≡◌, ◌<◌, ◌^◌, [], ◌∷◌, IfOk, IfSome, IsTrue, Some, MatchOption, MatchResult, length, option_copied, option_map};
+ghost use Rattle.text_fields.specs.Lines.{fields};
+ghost use Rattle.run_replayer.specs.Fields.{bases_of, bit_of, bits_of, byte_of, choice_of, end_of, ending_of, fill_bytes_of, fill_of, flags_of, regs_of, six_flags_of, step_of, truth_of, word_of};
+ghost use Rattle.run_replayer.specs.FieldReads.{Lacks, Reads};
+
+use crate::print::end_word;
+use crate::six_flags::SixFlags;
+use crate::{EndWord, RunStep};
+use memory_map::{Choice, Fill, FillBytes, Items};
+use bit_words::NoMemory;
+use std::alloc::Global;
+use std::marker::Model;
+use text_fields::{parse_hex_bytes, parse_hex2, parse_hex8, split_field};
+
+/// The fields of a line that are left to read, which contracts see as their list.
+pub struct Fields<'a> {
+    rest: &'a [u8],
+    ended: bool,
+}
+
+impl<'a> Model for Fields<'a> {
+    ghost use Rattle.std.specs.Prelude.{ℕ, List};
+    ghost use Rattle.run_replayer.specs.FieldReads.{fields_left};
+
+    ghost Value = { List (List ℕ) };
+
+    ghost view = { λ f. fields_left f.ended f.rest.now };
+}
+
+impl<'a> Fields<'a> {
+    /// All fields of a line.
+    pub fn of(line: &'a [u8]) -> Fields<'a>
+        ensures { result ≡ fields line.now }
+    {
+        Fields {
+            rest: line,
+            ended: false,
+        }
+    }
+
+    /// The next field.
+    pub fn next_field(&mut self) -> Option<&'a [u8]>
+        ensures { MatchOption result ((self.old ≡ []) × (self.new ≡ [])) (λ field. self.old ≡ field.now ∷ self.new) }
+    {
+        if self.ended {
+            return None;
+        }
+        let line = self.rest;
+        match split_field(line) {
+            Some((field, behind)) => {
+                self.rest = behind;
+                Some(field)
+            }
+            None => {
+                self.ended = true;
+                Some(line)
+            }
+        }
+    }
+
+    /// Whether no field was left; takes the next one off.
+    fn is_done(&mut self) -> bool
+        ensures { result ≡ (length self.old == 0) }
+    {
+        self.next_field().is_none()
+    }
+
+    fn next_byte(&mut self) -> Option<u8>
+        ensures { MatchOption result (Lacks byte_of self.old) (λ b. Reads byte_of self.old b self.new) }
+    {
+        parse_hex2(self.next_field()?)
+    }
+
+    fn next_word(&mut self) -> Option<u32>
+        ensures { MatchOption result (Lacks word_of self.old) (λ n. Reads word_of self.old n self.new) }
+    {
+        parse_hex8(self.next_field()?)
+    }
+
+    fn next_flags(&mut self) -> Option<SixFlags>
+        ensures { MatchOption result (Lacks flags_of self.old) (λ f. Reads flags_of self.old f self.new) }
+    {
+        flags_of(self.next_field()?)
+    }
+
+    fn next_truth(&mut self) -> Option<bool>
+        ensures { MatchOption result (Lacks truth_of self.old) (λ b. Reads truth_of self.old b self.new) }
+    {
+        truth_of(self.next_field()?)
+    }
+
+    fn next_end(&mut self) -> Option<EndWord>
+        ensures { MatchOption result (Lacks end_of self.old) (λ end. Reads end_of self.old end self.new) }
+    {
+        end_of(self.next_field()?)
+    }
+
+    fn next_fill_bytes(&mut self, alloc: Global) -> Result<Option<FillBytes>, NoMemory>
+        ensures { IfOk result (λ read. MatchOption read (Lacks fill_bytes_of self.old) (λ bytes. Reads fill_bytes_of self.old bytes self.new)) }
+    {
+        match self.next_field() {
+            Some(field) => fill_bytes_of(alloc, field),
+            None => Ok(None),
+        }
+    }
+}
+
+// The bit that a digit writes.
+fn bit_of(c: u8) -> Option<u8>
+    ensures value { result ≡ bit_of c }
+    ensures bit { IfSome result (λ bit. bit < 2) }
+{
+    match c {
+        b'0' => Some(0),
+        b'1' => Some(1),
+        _ => None,
+    }
+}
+
+// The number whose bits are these digits, bit 0 first.
+fn bits_of(digits: &[u8]) -> Option<u8>
+    requires { length digits.now ≤ 6 }
+    ensures value { result ≡ bits_of digits.now }
+    ensures small { IfSome result (λ n. n < 2 ^ length digits.now) }
+{
+    match digits.split_first() {
+        None => Some(0),
+        Some((c, others)) => {
+            let bit = bit_of(*c)?;
+            let rest = bits_of(others)?;
+            Some(bit + 2 * rest)
+        }
+    }
+}
+
+fn flags_of(field: &[u8]) -> Option<SixFlags>
+    ensures { result ≡ flags_of field.now }
+{
+    if field.len() != 6 {
+        return None;
+    }
+    Some(SixFlags::new(bits_of(field)?))
+}
+
+fn truth_of(field: &[u8]) -> Option<bool>
+    ensures { result ≡ truth_of field.now }
+{
+    if field == b"1".as_slice() {
+        Some(true)
+    } else if field == b"0".as_slice() {
+        Some(false)
+    } else {
+        None
+    }
+}
+
+const END_WORDS: [EndWord; 6] = [
+    EndWord::Steps,
+    EndWord::Exited,
+    EndWord::Faulted,
+    EndWord::NotListed,
+    EndWord::NoStub,
+    EndWord::BadChoice,
+];
+
+fn end_of(field: &[u8]) -> Option<EndWord>
+    ensures { result ≡ end_of field.now }
+{
+    END_WORDS.iter().copied().find(|end| end_word(*end) == field)
+}
+
+fn fill_bytes_of(alloc: Global, field: &[u8]) -> Result<Option<FillBytes>, NoMemory>
+    ensures { IfOk result (λ read. read ≡ fill_bytes_of field.now) }
+{
+    match parse_hex_bytes(alloc, field)? {
+        Some(bytes) => Ok(FillBytes::new(bytes)),
+        None => Ok(None),
+    }
+}
+
+/// EAX ECX EDX EBX ESP EBP ESI EDI.
+#[tactic(auto, unfolding(crate::specs::Fields::regs_of), using(crate::proofs::FieldFacts::then_reads, crate::proofs::FieldFacts::then_lacks))]
+pub fn regs_of(mut fields: Fields) -> Option<[u32; 8]>
+    ensures { result ≡ regs_of fields }
+{
+    let regs = [
+        fields.next_word()?,
+        fields.next_word()?,
+        fields.next_word()?,
+        fields.next_word()?,
+        fields.next_word()?,
+        fields.next_word()?,
+        fields.next_word()?,
+        fields.next_word()?,
+    ];
+    if fields.is_done() { Some(regs) } else { None }
+}
+
+/// Six flags in one field.
+#[tactic(auto, unfolding(crate::specs::Fields::six_flags_of), using(crate::proofs::FieldFacts::then_reads, crate::proofs::FieldFacts::then_lacks))]
+pub fn six_flags_of(mut fields: Fields) -> Option<SixFlags>
+    ensures { result ≡ six_flags_of fields }
+{
+    let flags = fields.next_flags()?;
+    if fields.is_done() { Some(flags) } else { None }
+}
+
+/// FS GS.
+#[tactic(auto, unfolding(crate::specs::Fields::bases_of), using(crate::proofs::FieldFacts::then_reads, crate::proofs::FieldFacts::then_lacks))]
+pub fn bases_of(mut fields: Fields) -> Option<(u32, u32)>
+    ensures { result ≡ bases_of fields }
+{
+    let fs = fields.next_word()?;
+    let gs = fields.next_word()?;
+    if fields.is_done() { Some((fs, gs)) } else { None }
+}
+
+/// An address and the bytes from there on.
+#[tactic(auto, unfolding(crate::specs::Fields::fill_of), using(crate::proofs::FieldFacts::then_reads, crate::proofs::FieldFacts::then_lacks))]
+pub fn fill_of(alloc: Global, mut fields: Fields) -> Result<Option<Fill>, NoMemory>
+    ensures { IfOk result (λ read. read ≡ fill_of fields) }
+{
+    let Some(at) = fields.next_word() else {
+        return Ok(None);
+    };
+    let Some(bytes) = fields.next_fill_bytes(alloc)? else {
+        return Ok(None);
+    };
+    if fields.is_done() {
+        Ok(Some(Fill { at, bytes }))
+    } else {
+        Ok(None)
+    }
+}
+
+/// FLAGS EAX ECX EDX BASE FAILS, without fills.
+#[tactic(auto, unfolding(crate::specs::Fields::choice_of), using(crate::proofs::FieldFacts::then_reads, crate::proofs::FieldFacts::then_lacks))]
+pub fn choice_of(alloc: Global, mut fields: Fields) -> Option<Choice>
+    ensures { result ≡ choice_of fields }
+{
+    let flags = fields.next_byte()?;
+    let eax = fields.next_word()?;
+    let ecx = fields.next_word()?;
+    let edx = fields.next_word()?;
+    let base = fields.next_word()?;
+    let fails = fields.next_truth()?;
+    if !fields.is_done() {
+        return None;
+    }
+    Some(Choice {
+        flags,
+        eax,
+        ecx,
+        edx,
+        base,
+        fails,
+        fill: Items::new(alloc),
+    })
+}
+
+/// FROM TO and a choice.
+#[tactic(auto, unfolding(crate::specs::Fields::step_of), using(crate::proofs::FieldFacts::then_reads, crate::proofs::FieldFacts::then_lacks))]
+pub fn step_of(alloc: Global, mut fields: Fields) -> Option<RunStep>
+    ensures { result ≡ step_of fields }
+{
+    let from = fields.next_word()?;
+    let to = fields.next_word()?;
+    let choice = choice_of(alloc, fields)?;
+    Some(RunStep { from, to, choice })
+}
+
+/// The word of a record's end.
+#[tactic(auto, unfolding(crate::specs::Fields::ending_of), using(crate::proofs::FieldFacts::then_reads, crate::proofs::FieldFacts::then_lacks))]
+pub fn ending_of(mut fields: Fields) -> Option<EndWord>
+    ensures { result ≡ ending_of fields }
+{
+    let end = fields.next_end()?;
+    if fields.is_done() { Some(end) } else { None }
+}

@@ -1,0 +1,138 @@
+ghost use Rattle.std.specs.Prelude.{◌≡◌, Some, Ok, MatchResult, OnOk};
+ghost use Rattle.text_fields.specs.Lines.{IsFaultOf, IsRefusalOf, fields};
+ghost use Rattle.run_replayer.specs.Grammar.{IsRecord, StatesRecord, no_record, record_grammar, record_read, record_rest, record_step, with_record_fill};
+
+use crate::fields::{Fields, ending_of, fill_of, step_of};
+use crate::{EndWord, RunRecord, RunStep};
+use crate::head::{Due, FIELD, Head, WORD};
+use memory_map::{Fill, Items};
+use std::alloc::{AllocError, Global};
+use text_fields::{LineReader, LineRefusal, TextFault, read_lines};
+use x86_machine::StartFile;
+
+/// What the lines of a run record have stated so far.
+#[derive(Drop)]
+pub struct RecordReader {
+    head: Head,
+    steps: Items<RunStep>,
+    end: Option<EndWord>,
+}
+
+impl RecordReader {
+    fn new(alloc: Global) -> RecordReader
+        ensures { result ≡ no_record }
+    {
+        RecordReader {
+            head: Head::new(alloc),
+            steps: Items::new(alloc),
+            end: None,
+        }
+    }
+
+    // A fill of the last step's choice, or of the start where there is none.
+    fn add_fill(&mut self, fill: Fill) -> Result<(), AllocError>
+        ensures { OnOk result (self.new ≡ with_record_fill fill self.old.steps self.old) }
+    {
+        match self.steps.pop() {
+            None => self.head.add_fill(fill),
+            Some(mut step) => {
+                step.choice.fill.push(fill)?;
+                self.steps.push(step)
+            }
+        }
+    }
+
+    // A fill, a step, or the end.
+    #[tactic(auto, unfolding(crate::specs::Grammar::record_rest))]
+    fn read_rest(&mut self, alloc: Global, line: &[u8]) -> Result<(), LineRefusal>
+        ensures { MatchResult result (λ _. record_rest self.old (fields line.now) ≡ Ok self.new) (λ e. IsRefusalOf (record_rest self.old (fields line.now)) e) }
+    {
+        let mut fields = Fields::of(line);
+        let Some(word) = fields.next_field() else {
+            return Err(LineRefusal::Kind(WORD));
+        };
+        if word == b"fill".as_slice() {
+            let Some(fill) = fill_of(alloc, fields)? else {
+                return Err(LineRefusal::Kind(FIELD));
+            };
+            self.add_fill(fill)?;
+            return Ok(());
+        }
+        if word == b"step".as_slice() {
+            let Some(step) = step_of(alloc, fields) else {
+                return Err(LineRefusal::Kind(FIELD));
+            };
+            self.steps.push(step)?;
+            return Ok(());
+        }
+        if word != b"end".as_slice() {
+            return Err(LineRefusal::Kind(WORD));
+        }
+        let Some(end) = ending_of(fields) else {
+            return Err(LineRefusal::Kind(FIELD));
+        };
+        self.end = Some(end);
+        Ok(())
+    }
+
+    // The record of all lines.
+    fn into_record(self, alloc: Global, end: EndWord) -> RunRecord
+        requires { self.end ≡ Some end }
+        ensures { IsRecord self result }
+    {
+        let RecordReader {
+            head,
+            steps,
+            end: _,
+        } = self;
+        let Head {
+            due: _,
+            regs,
+            flags,
+            fs,
+            gs,
+            fill,
+        } = head;
+        let start = StartFile {
+            regs,
+            flags: flags.get(),
+            fs,
+            gs,
+            fill,
+            choices: Items::new(alloc),
+        };
+        RunRecord { start, steps, end }
+    }
+}
+
+impl LineReader for RecordReader {
+    ghost use Rattle.run_replayer.specs.Grammar.{record_grammar};
+
+    ghost grammar = { record_grammar };
+
+    #[tactic(auto, unfolding(crate::specs::Grammar::record_step))]
+    fn read_line(&mut self, alloc: Global, line: &[u8]) -> Result<(), LineRefusal> {
+        if self.head.due == Due::Rest {
+            return self.read_rest(alloc, line);
+        }
+        match self.head.read_line(b"jakstab-record 1", line) {
+            Ok(()) => Ok(()),
+            Err(kind) => Err(LineRefusal::Kind(kind)),
+        }
+    }
+
+    fn is_ended(&self) -> bool {
+        self.end.is_some()
+    }
+}
+
+/// Reads a run record; refuses it exactly at its first bad line.
+pub fn read_record(alloc: Global, bytes: &[u8]) -> Result<RunRecord, TextFault>
+    ensures { MatchResult result (StatesRecord bytes.now) (λ fault. IsFaultOf (record_read bytes.now) fault) }
+{
+    let read = read_lines(alloc, RecordReader::new(alloc), bytes)?;
+    match read.end {
+        Some(end) => Ok(read.into_record(alloc, end)),
+        None => unreachable!(),
+    }
+}
