@@ -1,9 +1,9 @@
 -- Hexadecimal texts: their lengths, and the number that is read back.
 use Rattle.std.proofs.Common.{◌≡◌, ◌≢◌, take, drop, All, flat_map, ℕ, zero, suc, ◌+◌, ◌*◌, ◌/◌, ◌%◌, ◌^◌, ◌<◌, ◌≤◌, List, [], ◌∷◌, ◌++◌, length, Option, Some, None, arith, ◌∙◌, ap, sym, refl, ◌↔◌}
 use Rattle.std.proofs.lemmas.List.{append_assoc, append-nil, length-append}
-use Rattle.std.specs.Option.{option_and_then}
+use Rattle.std.specs.Option.{option_and_then, option_map}
 use Rattle.std.proofs.Math.Nat.{div-div-eq-div-mul, pow-succ', add-zero}
-use Rattle.text_fields.specs.Hex.{hex_digit, hex_digits, hex2, hex8, hex_text, IsHexText, digit_number, number_after}
+use Rattle.text_fields.specs.Hex.{hex_digit, hex_digits, hex2, hex8, hex_text, IsHexText, digit_number, hex_bytes, hex_number, number_after}
 
 -- the digits of a word by their places
 pub hex8_places : (n : ℕ) → hex8 n ≡
@@ -135,3 +135,36 @@ pub hex_text-push : (bytes : List ℕ) (b : ℕ) → hex_text (bytes ++ b ∷ []
 unfolding hex_text
 hex_text-push [] b = append-nil (hex2 b)
 hex_text-push (c ∷ bytes) b = rw (hex_text-push bytes b) (sym (append_assoc (hex2 c) (hex_text bytes) (hex2 b)))
+
+-- bytes read before others
+abbrev pub with_bytes : List ℕ → Option (List ℕ) → Option (List ℕ)
+with_bytes bytes others = option_map (λ more. bytes ++ more) others
+
+pub with_none : (others : Option (List ℕ)) → others ≡ with_bytes [] others
+with_none None = refl
+with_none (Some more) = refl
+
+with_more : (bytes : List ℕ) (b : ℕ) (others : Option (List ℕ)) → with_bytes bytes (option_map (λ more. b ∷ more) others) ≡ with_bytes (bytes ++ b ∷ []) others
+with_more bytes b None = refl
+with_more bytes b (Some more) = ap Some (sym (append_assoc bytes (b ∷ []) more))
+
+-- a pair of digits is read before the others
+pub pair_read : (text : List ℕ) → 2 ≤ length text → hex_bytes text ≡ option_and_then (λ b. option_map (λ bytes. b ∷ bytes) (hex_bytes (drop 2 text))) (hex_number 2 (take 2 text))
+pair_read [] long = let never : ⊥ = omega arith in absurd never
+pair_read (high ∷ []) long = let never : ⊥ = omega arith in absurd never
+pair_read (high ∷ low ∷ others) long = refl
+
+pub with_one_more : (bytes text : List ℕ) (b : ℕ) → 2 ≤ length text → Some b ≡ hex_number 2 (take 2 text) → with_bytes bytes (hex_bytes text) ≡ with_bytes (bytes ++ b ∷ []) (hex_bytes (drop 2 text))
+with_one_more bytes text b long pair = rw (pair_read text long, ← pair) (with_more bytes b (hex_bytes (drop 2 text)))
+
+pub no_pair : (text : List ℕ) → 2 ≤ length text → ◌≡◌ {A = Option ℕ} None (hex_number 2 (take 2 text)) → hex_bytes text ≡ None
+no_pair text long none = rw (pair_read text long, ← none) refl
+
+pub odd_left : (text : List ℕ) → 0 < length text → length text < 2 → hex_bytes text ≡ None
+odd_left [] some short = let never : ⊥ = omega arith in absurd never
+odd_left (high ∷ []) some short = refl
+odd_left (high ∷ low ∷ others) some short = let never : ⊥ = omega arith in absurd never
+
+pub nothing_left : (text : List ℕ) → length text ≡ 0 → hex_bytes text ≡ Some []
+nothing_left [] none = refl
+nothing_left (c ∷ cs) none = let never : ⊥ = omega arith in absurd never

@@ -1,2 +1,3 @@
 pub mod DecimalFacts
 pub mod HexFacts
+pub mod LineFacts

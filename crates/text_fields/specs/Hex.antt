@@ -1,5 +1,5 @@
 -- Hexadecimal texts, in upper-case digits.
-use Rattle.std.specs.Prelude.{◌≡◌, ℕ, ◌<◌, ◌^◌, All, ◌+◌, ◌-◌, ◌*◌, ◌/◌, ◌%◌, ◌&&◌, nat_lt, nat_le, if◌then◌else◌, List, [], ◌∷◌, ◌++◌, zero, suc, flat_map, Option, Some, None, option_and_then}
+use Rattle.std.specs.Prelude.{◌≡◌, ℕ, ◌<◌, ◌^◌, All, ◌+◌, ◌-◌, ◌*◌, ◌/◌, ◌%◌, ◌&&◌, ◌==◌, nat_lt, nat_le, if◌then◌else◌, List, [], ◌∷◌, ◌++◌, zero, suc, flat_map, length, Option, Some, None, option_and_then, option_map}
 
 -- 0 to 9, and A to F for 10 to 15
 unfoldable pub hex_digit : ℕ → ℕ
@@ -37,3 +37,13 @@ digit_number c =
 abbrev pub number_after : ℕ → List ℕ → Option ℕ
 number_after n [] = Some n
 number_after n (c ∷ cs) = option_and_then (λ d. number_after (n * 16 + d) cs) (digit_number c)
+
+-- the number that exactly k digits write
+abbrev pub hex_number : ℕ → List ℕ → Option ℕ
+hex_number k text = if length text == k then number_after 0 text else None
+
+-- the bytes that pairs of digits write
+abbrev pub hex_bytes : List ℕ → Option (List ℕ)
+hex_bytes [] = Some []
+hex_bytes (high ∷ []) = None
+hex_bytes (high ∷ low ∷ others) = option_and_then (λ b. option_map (λ bytes. b ∷ bytes) (hex_bytes others)) (number_after 0 (high ∷ low ∷ []))

@@ -1,7 +1,10 @@
-ghost use Rattle.std.specs.Prelude.{◌≡◌, ℕ, Some, ◌<◌, ◌≤◌, ◌^◌, ◌↔◌, length, IfOk, IfSome, IfNone, SomeIff, decimal};
+ghost use Rattle.std.specs.Prelude.{◌≡◌, ℕ, Some, ◌<◌, ◌≤◌, ◌^◌, ◌↔◌, ◌==◌, length, option_map, IfOk, IfSome, IfNone, SomeIff, decimal};
+ghost use Rattle.std.specs.Char.{is_ascii_digit};
+ghost use Rattle.std.specs.List.{list_all};
 ghost use Rattle.std.specs.Str.{str_to_ascii_uppercase};
 ghost use Rattle.std.specs.Str.Parse.{IsNumeral, digits_value};
-ghost use Rattle.text_fields.specs.Hex.{digit_number, hex2, hex8, hex_text, IsHexText, number_after};
+ghost use Rattle.text_fields.specs.Decimal.{decimal_below, decimal_number, is_decimal};
+ghost use Rattle.text_fields.specs.Hex.{digit_number, hex2, hex8, hex_bytes, hex_number, hex_text, IsHexText, number_after};
 
 use bit_words::NoMemory;
 use std::alloc::Global;
@@ -35,7 +38,8 @@ fn number_of(text: &[u8]) -> Option<u32>
 
 /// The byte that exactly two upper-case hexadecimal digits write; None for any other text.
 pub fn parse_hex2(text: &[u8]) -> Option<u8>
-    ensures { (b : ℕ) → b < 2 ^ 8 → (result ≡ Some b) ↔ (text.now ≡ hex2 b) }
+    ensures value { result ≡ hex_number 2 text.now }
+    ensures digits { (b : ℕ) → b < 2 ^ 8 → (result ≡ Some b) ↔ (text.now ≡ hex2 b) }
 {
     if text.len() != 2 {
         return None;
@@ -48,7 +52,8 @@ pub fn parse_hex2(text: &[u8]) -> Option<u8>
 
 /// The word that exactly eight upper-case hexadecimal digits write; None for any other text.
 pub fn parse_hex8(text: &[u8]) -> Option<u32>
-    ensures { (n : ℕ) → n < 2 ^ 32 → (result ≡ Some n) ↔ (text.now ≡ hex8 n) }
+    ensures value { result ≡ hex_number 8 text.now }
+    ensures digits { (n : ℕ) → n < 2 ^ 32 → (result ≡ Some n) ↔ (text.now ≡ hex8 n) }
 {
     if text.len() != 8 {
         return None;
@@ -89,18 +94,55 @@ pub fn parse_number(text: &[u8]) -> Option<u32>
     u32::try_from(decimal_value(text)?).ok()
 }
 
+fn is_digit(c: u8) -> bool
+    ensures { result ≡ is_ascii_digit c }
+{
+    c.is_ascii_digit()
+}
+
+fn are_digits(text: &[u8]) -> bool
+    ensures { result ≡ list_all is_ascii_digit text.now }
+{
+    text.iter().all(|c| is_digit(*c))
+}
+
+fn is_decimal(text: &[u8]) -> bool
+    ensures { result ≡ is_decimal text.now }
+{
+    match text {
+        [] => false,
+        [digit] => is_digit(*digit),
+        [first, ..] => *first != b'0' && are_digits(text),
+    }
+}
+
 /// The number below 2^64 whose decimal text, without leading zeros, this is; None for any other text.
 pub fn parse_decimal(text: &[u8]) -> Option<u64>
-    ensures { (n : ℕ) → n < 2 ^ 64 → (result ≡ Some n) ↔ (text.now ≡ decimal n) }
+    ensures value { result ≡ decimal_below (2 ^ 64) text.now }
+    ensures digits { (n : ℕ) → n < 2 ^ 64 → (result ≡ Some n) ↔ (text.now ≡ decimal n) }
 {
-    if text.len() > 1 && text[0] == b'0' {
+    if !is_decimal(text) {
         return None;
     }
     decimal_value(text)
 }
 
+/// Whether a decimal text, which may be of any length, writes this number; None for any other text.
+pub fn decimal_is(text: &[u8], n: u64) -> Option<bool>
+    ensures { result ≡ option_map (λ m. m == n) (decimal_number text.now) }
+{
+    if !is_decimal(text) {
+        return None;
+    }
+    match decimal_value(text) {
+        Some(m) => Some(m == n),
+        None => Some(false),
+    }
+}
+
 /// The bytes that upper-case hexadecimal digits write, two for each and without spaces; None for any other text.
 pub fn parse_hex_bytes(alloc: Global, text: &[u8]) -> Result<Option<Vec<u8>>, NoMemory>
+    ensures value { IfOk result (λ read. option_map (λ bytes. bytes.items) read ≡ hex_bytes text.now) }
     ensures some { IfOk result (λ read. IfSome read (λ bytes. text.now ≡ hex_text bytes.items)) }
     ensures none { IfOk result (λ read. IfNone read (¬ IsHexText text.now)) }
 {

@@ -1,20 +1,16 @@
-use Rattle.std.proofs.Common.{rules, arith, ◌≡◌, ◌<◌, ◌≤◌, length, get_or}
-use Rattle.text_fields.proofs.DecimalFacts.{reads_decimal, no_leading_zero}
+use Rattle.std.proofs.Common.{rules, arith, ◌≡◌, ◌<◌, ◌≤◌, length, get_or, sym, ◌∙◌, refl, Option, Some, None, ℕ}
+use Rattle.text_fields.proofs.DecimalFacts.{no_decimal_number, value_below, not_decimal, decimal_plain, reads_decimal}
 use Rattle.text_fields.proofs.readers.parse_decimal.Goals as goal
-use Rattle.text_fields.proofs.readers.parse_decimal.Goals.{else-text-gt1-via-then-text-gt1+else-text-eq48, else-text-gt1-via-else-text-gt1}
 
-pub returns-then-text-eq48 : goal.returns-then-text-eq48
-returns-then-text-eq48 c = λ n small.
-    let long : 1 < length c.args.text.now = search rules in
-    let begins : get_or c.args.text.now 0 0 ≡ 48 = search rules in
-    ((λ e. let never : ⊥ = cc in absurd never), (λ same. absurd (no_leading_zero c.args.text.now n small long begins same)))
+pub returns-then-not-is_decimal-clause-value : goal.returns-then-not-is_decimal-clause-value
+returns-then-not-is_decimal-clause-value c = rw (no_decimal_number c.args.text.now (sym c.if-not-is_decimal.ensures)) refl
 
-pub returns : goal.returns
-returns c = λ n small.
-    let plain : get_or c.args.text.now 0 0 ≡ 48 → length c.args.text.now ≤ 1 =
-    elim c.else-text-gt1.branch [
-      | else-text-gt1-via-then-text-gt1+else-text-eq48 w ↦ λ begins. absurd (w.if-text-eq48.false begins)
-      | else-text-gt1-via-else-text-gt1 w ↦ λ begins. let most = w.if-text-gt1.false in omega arith
-    ]
-    in
-    reads_decimal c.args.text.now n c.decimal_value.result small plain c.decimal_value.ensures
+pub returns-then-not-is_decimal-clause-digits : goal.returns-then-not-is_decimal-clause-digits
+returns-then-not-is_decimal-clause-digits c = λ n small.
+    ((λ e. let never : ⊥ = cc in absurd never), (λ same. absurd (not_decimal c.args.text.now n small (sym c.if-not-is_decimal.ensures) same)))
+
+pub returns-clause-value : goal.returns-clause-value
+returns-clause-value c = value_below c.args.text.now c.decimal_value.result (sym c.if-not-is_decimal.ensures) c.decimal_value.ensures
+
+pub returns-clause-digits : goal.returns-clause-digits
+returns-clause-digits c = λ n small. reads_decimal c.args.text.now n c.decimal_value.result small (decimal_plain c.args.text.now (sym c.if-not-is_decimal.ensures)).short c.decimal_value.ensures
