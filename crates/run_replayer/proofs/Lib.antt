@@ -1,4 +1,12 @@
 pub mod Making
 pub mod Searching
 pub mod Replays
+pub mod Once
+pub mod Leaving
 pub mod FieldFacts
+pub mod Splitting
+pub mod FieldTexts
+pub mod LineTexts
+pub mod HeadTold
+pub mod StartTold
+pub mod RecordTold

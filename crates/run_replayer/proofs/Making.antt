@@ -1,5 +1,5 @@
 -- Steps that are made one after another, as a run records them.
-use Rattle.std.proofs.Common.{◌≡◌, ℕ, zero, suc, ◌+◌, ◌-◌, ◌<◌, List, [], ◌∷◌, ◌++◌, drop, refl, sym, ◌∙◌, ap, subst, inl, inr, arith, append_assoc}
+use Rattle.std.proofs.Common.{◌≡◌, ℕ, zero, suc, ◌+◌, ◌-◌, ◌<◌, List, [], ◌∷◌, ◌++◌, drop, refl, sym, ◌∙◌, ap, subst, inl, inr, arith, append_assoc, append-nil}
 use Rattle.memory_map.specs.declared.choice.Choice.{Choice}
 use Rattle.memory_map.specs.Image.{Image}
 use Rattle.memory_map.specs.State.{MachineState}
@@ -47,7 +47,7 @@ module _ (image : Image) (stubs : StatedStubs) (count : ℕ) (choices : List Cho
   }
 
   whole : (made : List RunStep) (end : EndWord) → AreMade image stubs count choices start (made ++ []) end → AreMade image stubs count choices start made end
-  whole made end h = let R : List RunStep → Type 0 = λ steps. AreMade image stubs count choices start steps end in subst R (let e : made ++ [] ≡ made = search arith in e) h
+  whole made end h = let R : List RunStep → Type 0 = λ steps. AreMade image stubs count choices start steps end in subst R (append-nil made) h
 
   pub all_made : (made : List RunStep) (done : ℕ) (m : MachineState) → AreMaking made done m → done ≡ count → AreMade image stubs count choices start made ends.Steps
   unfolding AreMade

@@ -1,5 +1,6 @@
 -- The verdict of steps: by an index as by the automaton itself, and by each rule in its turn.
-use Rattle.std.proofs.Common.{◌≡◌, ◌≢◌, ℕ, ◌+◌, ◌⊎◌, List, [], ◌∷◌, refl, sym, ◌∙◌, ap, subst, inl, inr, Some}
+use Rattle.std.proofs.Common.{◌≡◌, ◌≢◌, ℕ, suc, ◌+◌, ◌<◌, ◌≤◌, ◌⊎◌, List, [], ◌∷◌, length, drop, get_or, refl, sym, ◌∙◌, ap, subst, inl, inr, Some, arith, drop-cons}
+use Rattle.std.proofs.lemmas.List.{drop_all}
 use Rattle.std.specs.Prelude.{Contains}
 use Rattle.memory_map.specs.Image.{Image}
 use Rattle.memory_map.specs.State.{MachineState}
@@ -13,7 +14,7 @@ use Rattle.run_replayer.specs.declared.record.RunStep.{RunStep}
 use Rattle.run_replayer.specs.declared.verdict.RunKind.{RunKind}
 use Rattle.run_replayer.specs.declared.verdict.RunKind.TheVariants as kinds
 use Rattle.run_replayer.specs.declared.verdict.Verdict.{Verdict}
-use Rattle.run_replayer.specs.declared.verdict.Verdict.TheVariants.{ReachedOpen, NotARun, NotAnEdge}
+use Rattle.run_replayer.specs.declared.verdict.Verdict.TheVariants.{Inside, ReachedOpen, NotARun, NotAnEdge}
 use Rattle.run_replayer.specs.Replaying.{Ends, IsIndex, MakesNone, Passes, kind_of}
 use Rattle.run_replayer.specs.Verdict.{ByOutcome, Decides, IsTried, Whether, open_of}
 
@@ -25,9 +26,9 @@ module _ (image : Image) (stubs : StatedStubs) (i : Index) (n : ℕ) (m : Machin
     goes = λ steps verdict later. inr (closed, inl (from, record { outcome = stepped next; comes = comes; decides = inl (to, inl (edge, later)) }));
   }
 
-  pub ends_open : Contains i.opened m.eip → Ends image stubs i n m s (ReachedOpen n m.eip)
+  pub ends_open : (at : ℕ) → at ≡ m.eip → Contains i.opened at → Ends image stubs i n m s (ReachedOpen n at)
   unfolding Decides
-  ends_open here = record { decides = λ steps. inl (here, refl) }
+  ends_open at is here = record { decides = λ steps. inl (subst (λ (a : ℕ). Contains i.opened a) is here, ap (ReachedOpen n) is) }
 
   pub ends_elsewhere : (Contains i.opened m.eip → ⊥) → m.eip ≢ s.from → Ends image stubs i n m s (NotARun n kinds.From)
   unfolding Decides
@@ -85,3 +86,46 @@ module _ (image : Image) (stubs : StatedStubs) (a : Automaton) (i : Index) (is :
       whether (is.opened m.eip).0 (is.opened m.eip).1 (λ v. v)
       (λ w. whether (λ e. e) (λ e. e) (λ t. record { outcome = t.outcome; comes = t.comes; decides = by_outcome n m s _ _ (λ next l. decided steps (n + 1) next l) t.outcome t.decides }) (λ v. v) w)
       h
+
+-- with so many steps passed, what the others decide is the verdict of all
+pub record IsReplaying (image : Image) (stubs : StatedStubs) (i : Index) (start : MachineState) (steps : List RunStep) (done n : ℕ) (m : MachineState) : Type 0 where
+  pub number : n ≡ done
+  pub goes : (verdict : Verdict) → Decides image stubs i.edges i.opened done m (drop done steps) verdict → Decides image stubs i.edges i.opened 0 start steps verdict
+
+pub none_passed : (image : Image) (stubs : StatedStubs) (i : Index) (start : MachineState) (steps : List RunStep) → IsReplaying image stubs i start steps 0 0 start
+none_passed image stubs i start steps = record { number = refl; goes = λ verdict h. h }
+
+module _ (image : Image) (stubs : StatedStubs) (i : Index) (start : MachineState) (steps : List RunStep) (done n : ℕ) (m : MachineState) (is : IsReplaying image stubs i start steps done n m) where
+  next_step : (s : RunStep) → done < length steps → s ≡ get_or steps done s → drop done steps ≡ s ∷ drop (done + 1) steps
+  next_step s below at = drop-cons steps done s ∙ ap (λ x. x ∷ drop (suc done) steps) (sym at) ∙ ap (λ k. s ∷ drop k steps) (let e : suc done ≡ done + 1 = omega arith in e)
+
+  pub one_passed : (s : RunStep) (next : MachineState) → done < length steps → s ≡ get_or steps done s → Passes image stubs i n m s next → IsReplaying image stubs i start steps (done + 1) (n + 1) next
+  one_passed s next below at passes = record {
+    number = ap (λ k. k + 1) is.number;
+    goes = λ verdict h. (
+      let P : List RunStep → Type 0 = λ ss. Decides image stubs i.edges i.opened done m ss verdict in
+      let Q : ℕ → Type 0 = λ k. Decides image stubs i.edges i.opened k m (s ∷ drop (done + 1) steps) verdict in
+      let R : ℕ → Type 0 = λ k. Decides image stubs i.edges i.opened (k + 1) next (drop (done + 1) steps) verdict in
+      is.goes verdict (subst P (sym (next_step s below at)) (subst Q is.number (passes.goes (drop (done + 1) steps) verdict (subst R (sym is.number) h))))
+    );
+  }
+
+  pub ended : (s : RunStep) (verdict : Verdict) → done < length steps → s ≡ get_or steps done s → Ends image stubs i n m s verdict → Decides image stubs i.edges i.opened 0 start steps verdict
+  ended s verdict below at ends =
+      let P : List RunStep → Type 0 = λ ss. Decides image stubs i.edges i.opened done m ss verdict in
+      let Q : ℕ → Type 0 = λ k. Decides image stubs i.edges i.opened k m (s ∷ drop (done + 1) steps) verdict in
+      is.goes verdict (subst P (sym (next_step s below at)) (subst Q is.number (ends.decides (drop (done + 1) steps))))
+
+  pub all_open : (at : ℕ) → done ≡ length steps → at ≡ m.eip → Contains i.opened at → Decides image stubs i.edges i.opened 0 start steps (ReachedOpen n at)
+  unfolding Decides
+  all_open at all here held =
+      let none : [] ≡ drop done steps = sym (drop_all done steps (omega (arith, all))) in
+      let P : List RunStep → Type 0 = λ ss. Decides image stubs i.edges i.opened done m ss (ReachedOpen n at) in
+      is.goes (ReachedOpen n at) (subst P none (inl (subst (λ (a : ℕ). Contains i.opened a) here held, ap (λ k. ReachedOpen k at) is.number ∙ ap (ReachedOpen done) here)))
+
+  pub all_inside : (at : ℕ) → done ≡ length steps → at ≡ m.eip → (Contains i.opened at → ⊥) → Decides image stubs i.edges i.opened 0 start steps (Inside n)
+  unfolding Decides
+  all_inside at all here closed =
+      let none : [] ≡ drop done steps = sym (drop_all done steps (omega (arith, all))) in
+      let P : List RunStep → Type 0 = λ ss. Decides image stubs i.edges i.opened done m ss (Inside n) in
+      is.goes (Inside n) (subst P none (inr (λ h. closed (subst (λ (a : ℕ). Contains i.opened a) (sym here) h), ap Inside is.number)))

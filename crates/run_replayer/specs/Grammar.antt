@@ -1,7 +1,6 @@
 -- The grammars of start files and run records: what each whole line makes of what was read before it, or the kind of its fault.
 use Rattle.std.specs.Prelude.{ℕ, ◌≡◌, ◌++◌, Bool, false, true, List, [], ◌∷◌, codes, replicate, Option, None, Some, option_map, Result, Ok, Err, is_some, if◌then◌else◌}
 use Rattle.std.specs.Option.{ok_or}
-use Rattle.std.specs.Result.{result_map}
 use Rattle.std.specs.Str.{bytes_eq}
 use Rattle.memory_map.specs.declared.choice.Choice.{Choice}
 use Rattle.memory_map.specs.declared.choice.Fill.{Fill}
@@ -39,12 +38,17 @@ behind word [] = None
 behind word (first ∷ others) = if bytes_eq first word then Some others else None
 
 -- what these fields make; another first word is a fault
+abbrev pub or_word : {A : Type 0} → Option (List (List ℕ)) → (List (List ℕ) → Option A) → Result A ℕ
+or_word None go = Err WORD
+or_word (Some others) go = or_field (go others)
+
 abbrev pub behind_word : {A : Type 0} → List ℕ → List ℕ → (List (List ℕ) → Option A) → Result A ℕ
-behind_word {A} word line go = behind_or (behind word (fields line))
-  where
-    behind_or : Option (List (List ℕ)) → Result A ℕ
-    behind_or None = Err WORD
-    behind_or (Some others) = or_field (go others)
+behind_word word line go = or_word (behind word (fields line)) go
+
+-- the whole of which this is a part
+abbrev pub within : {A B : Type 0} → (A → B) → Result A ℕ → Result B ℕ
+within whole (Ok a) = Ok (whole a)
+within whole (Err kind) = Err kind
 
 -- ---- the lines with which both texts begin: the first line, the registers, the flags and the bases
 
@@ -109,7 +113,7 @@ start_rest s (word ∷ fs) =
     else Err WORD
 
 unfoldable pub start_step : StartReader → List ℕ → Result StartReader ℕ
-start_step s line = if is_rest s.head.due then start_rest s (fields line) else result_map (λ head. record s { head = head }) (head_step start_header s.head line)
+start_step s line = if is_rest s.head.due then start_rest s (fields line) else within (λ head. record s { head = head }) (head_step start_header s.head line)
 
 abbrev pub start_grammar : Grammar StartReader
 start_grammar = record { step = start_step; is_ended = λ s. s.ended }
@@ -155,7 +159,7 @@ record_rest r (word ∷ fs) =
     else Err WORD
 
 unfoldable pub record_step : RecordReader → List ℕ → Result RecordReader ℕ
-record_step r line = if is_rest r.head.due then record_rest r (fields line) else result_map (λ head. record r { head = head }) (head_step record_header r.head line)
+record_step r line = if is_rest r.head.due then record_rest r (fields line) else within (λ head. record r { head = head }) (head_step record_header r.head line)
 
 abbrev pub record_grammar : Grammar RecordReader
 record_grammar = record { step = record_step; is_ended = λ r. is_some r.end }

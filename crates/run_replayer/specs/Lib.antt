@@ -7,3 +7,4 @@ pub mod Record
 pub mod Verdict
 pub mod VerdictLine
 pub mod Replaying
+pub mod Laws

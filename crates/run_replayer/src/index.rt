@@ -24,7 +24,7 @@ fn copy_edges(alloc: Global, edges: &[Edge]) -> Result<Vec<Edge>, AllocError>
 }
 
 fn open_addresses(alloc: Global, marks: &[OpenMark]) -> Result<Vec<u32>, AllocError>
-    ensures { IfOk result (λ open. open.items ≡ map (λ m. m.at) marks.now) }
+    ensures { IfOk result (λ found. found.items ≡ map (λ m. m.at) marks.now) }
 {
     marks.iter().map(|m| m.at).collect(alloc)
 }

@@ -6,10 +6,11 @@
 mod fields;
 mod head;
 mod index;
+mod laws;
 mod print;
 mod record;
 mod record_reader;
-mod replay;
+mod replaying;
 mod run;
 mod run_fault;
 mod six_flags;
@@ -17,11 +18,17 @@ mod sorted;
 mod start_reader;
 mod verdict;
 
+pub use laws::{missing_edges_are_of_runs, records_and_verdicts_are_one};
 pub use print::print_record;
 pub use record::{EndWord, RunRecord, RunStep};
 pub use record_reader::{RecordReader, read_record};
-pub use replay::replay;
+pub use replaying::replay;
 pub use run::run_machine;
 pub use run_fault::RunFault;
 pub use start_reader::{StartReader, read_start};
 pub use verdict::{RunKind, Verdict, verdict_line};
+
+#[cfg(test)]
+mod run_tests;
+#[cfg(test)]
+mod text_tests;

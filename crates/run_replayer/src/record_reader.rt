@@ -1,6 +1,7 @@
-ghost use Rattle.std.specs.Prelude.{◌≡◌, Some, Ok, MatchResult, OnOk};
+ghost use Rattle.std.specs.Prelude.{◌≡◌, IfOk, Some, Ok, MatchResult, OnOk};
 ghost use Rattle.text_fields.specs.Lines.{IsFaultOf, IsRefusalOf, fields};
 ghost use Rattle.run_replayer.specs.Grammar.{IsRecord, StatesRecord, no_record, record_grammar, record_read, record_rest, record_step, with_record_fill};
+ghost use Rattle.run_replayer.specs.Texts.{record_text};
 
 use crate::fields::{Fields, ending_of, fill_of, step_of};
 use crate::{EndWord, RunRecord, RunStep};
@@ -126,9 +127,10 @@ impl LineReader for RecordReader {
     }
 }
 
-/// Reads a run record; refuses it exactly at its first bad line.
+/// Reads a run record; refuses it exactly at its first bad line. Printing it gives the bytes back.
 pub fn read_record(alloc: Global, bytes: &[u8]) -> Result<RunRecord, TextFault>
-    ensures { MatchResult result (StatesRecord bytes.now) (λ fault. IsFaultOf (record_read bytes.now) fault) }
+    ensures read { MatchResult result (StatesRecord bytes.now) (λ fault. IsFaultOf (record_read bytes.now) fault) }
+    ensures text { IfOk result (λ r. bytes.now ≡ record_text r) }
 {
     let read = read_lines(alloc, RecordReader::new(alloc), bytes)?;
     match read.end {

@@ -1,6 +1,7 @@
-ghost use Rattle.std.specs.Prelude.{◌≡◌, Ok, MatchResult, OnOk};
+ghost use Rattle.std.specs.Prelude.{◌≡◌, IfOk, Ok, MatchResult, OnOk};
 ghost use Rattle.text_fields.specs.Lines.{IsFaultOf, IsRefusalOf, fields};
 ghost use Rattle.run_replayer.specs.Grammar.{IsStart, StatesStart, no_start, start_grammar, start_read, start_rest, start_step, with_start_fill};
+ghost use Rattle.run_replayer.specs.Texts.{start_text};
 
 use crate::fields::{Fields, choice_of, fill_of};
 use crate::head::{Due, FIELD, Head, WORD};
@@ -125,7 +126,8 @@ impl LineReader for StartReader {
 
 /// Reads a start file; refuses it exactly at its first bad line.
 pub fn read_start(alloc: Global, bytes: &[u8]) -> Result<StartFile, TextFault>
-    ensures { MatchResult result (StatesStart bytes.now) (λ fault. IsFaultOf (start_read bytes.now) fault) }
+    ensures read { MatchResult result (StatesStart bytes.now) (λ fault. IsFaultOf (start_read bytes.now) fault) }
+    ensures text { IfOk result (λ s. bytes.now ≡ start_text s) }
 {
     let read = read_lines(alloc, StartReader::new(alloc), bytes)?;
     Ok(read.into_start())

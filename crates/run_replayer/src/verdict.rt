@@ -1,5 +1,6 @@
 ghost use Rattle.std.specs.Prelude.{◌≡◌, ◌++◌, IfOk, OnOk};
-ghost use Rattle.run_replayer.specs.VerdictLine.{is_no, kind_word, number_field, verdict_line, word_field};
+ghost use Rattle.run_replayer.specs.VerdictLine.{is_no, kind_word, number_field, verdict_line};
+ghost use Rattle.run_replayer.specs.Texts.{word_field};
 
 use bit_words::NoMemory;
 use std::alloc::Global;

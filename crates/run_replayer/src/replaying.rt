@@ -31,6 +31,7 @@ fn code_label(bytes: &[u8]) -> Label
 }
 
 // The label of a step from where the machine stands.
+#[tactic(auto, unfolding(x86_machine::specs::Machine::label_at))]
 fn label_at(alloc: Global, image: &Image, machine: &Machine) -> Result<Label, NoMemory>
     ensures { IfOk result (λ label. label ≡ label_at image.now machine.now) }
 {

@@ -1,0 +1,171 @@
+-- A text that is read as a start file is that start file's text.
+use Rattle.std.proofs.Common.{◌≡◌, ℕ, Bool, true, false, List, [], ◌∷◌, ◌++◌, Option, Some, None, Ok, Err, refl, sym, ◌∙◌, ap, subst, append_assoc, append-nil}
+use Rattle.std.specs.Prelude.{Result, codes, flat_map, option_map, if◌then◌else◌}
+use Rattle.std.specs.Str.{bytes_eq}
+use Rattle.std.proofs.lemmas.Slice.Eq.{bytes_eq-Decides}
+use Rattle.text_fields.specs.Line.{newline}
+use Rattle.text_fields.specs.Lines.{fields, lines}
+use Rattle.memory_map.specs.declared.choice.Choice.{Choice}
+use Rattle.memory_map.specs.declared.choice.Fill.{Fill}
+use Rattle.x86_machine.specs.declared.start_file.StartFile.{StartFile}
+use Rattle.run_replayer.specs.declared.head.Due.{Due}
+use Rattle.run_replayer.specs.declared.head.Due.TheVariants as due
+use Rattle.run_replayer.specs.declared.head.Head.{Head}
+use Rattle.run_replayer.specs.declared.start_reader.StartReader.{StartReader}
+use Rattle.run_replayer.specs.Fields.{choice_of, fill_of, no_more}
+use Rattle.run_replayer.specs.Grammar.{IsStart, StatesStart, WORD, head_step, is_rest, no_start, or_field, start_grammar, start_rest, start_step, with_fill, with_head_fill, with_last, with_start_fill, within}
+use Rattle.run_replayer.specs.Texts.{choice_fields, choice_lines, fill_line, start_header, start_lines, start_text}
+use Rattle.run_replayer.proofs.FieldTexts.{is_done}
+use Rattle.run_replayer.proofs.HeadTold.{due_told, field_made, mapped, told_due}
+use Rattle.run_replayer.proofs.LineTexts.{choice_told, fill_told}
+use Rattle.run_replayer.proofs.Splitting.{Tells, fields_back, kept_lines, spaced, told_text}
+
+pub flat_map-append : {X : Type 0} (f : X → List ℕ) (xs ys : List X) → flat_map f (xs ++ ys) ≡ flat_map f xs ++ flat_map f ys
+flat_map-append f [] ys = refl
+flat_map-append f (x ∷ xs) ys = ap (λ l. f x ++ l) (flat_map-append f xs ys) ∙ sym (append_assoc (f x) (flat_map f xs) (flat_map f ys))
+
+-- one more at the end
+pub flat_map-last : {X : Type 0} (f : X → List ℕ) (xs : List X) (x : X) → flat_map f (xs ++ x ∷ []) ≡ flat_map f xs ++ f x
+flat_map-last f xs x = flat_map-append f xs (x ∷ []) ∙ ap (λ l. flat_map f xs ++ l) (append-nil (f x))
+
+-- the last one changed so that its text gains this
+pub flat_map-with_last : {X : Type 0} (f : X → List ℕ) (change : X → X) (more : List ℕ) → ((x : X) → f (change x) ≡ f x ++ more) → (x : X) (xs : List X)
+    → flat_map f (with_last change (x ∷ xs)) ≡ flat_map f (x ∷ xs) ++ more
+flat_map-with_last f change more gains x [] = append-nil (f (change x)) ∙ gains x ∙ ap (λ l. l ++ more) (sym (append-nil (f x)))
+flat_map-with_last f change more gains x (y ∷ xs) = ap (λ l. f x ++ l) (flat_map-with_last f change more gains y xs) ∙ sym (append_assoc (f x) (flat_map f (y ∷ xs)) more)
+
+choice_gains : (fill : Fill) (c : Choice) → choice_lines (with_fill fill c) ≡ choice_lines c ++ fill_line fill
+unfolding choice_lines choice_fields
+choice_gains fill c =
+    ap (λ l. (codes "choice" ++ choice_fields c ++ newline) ++ l) (flat_map-last fill_line c.fill fill)
+    ∙ sym (append_assoc (codes "choice" ++ choice_fields c ++ newline) (flat_map fill_line c.fill) (fill_line fill))
+
+end_told : Bool → List ℕ
+end_told true = codes "end" ++ newline
+end_told false = []
+
+-- what was stated so far
+pub told : StartReader → List ℕ
+told s = told_due start_header s.head.due s.head ++ flat_map fill_line s.head.fill ++ flat_map choice_lines s.choices ++ end_told s.ended
+
+-- nothing is stated before its turn
+pub record Keeps (s : StartReader) : Type 0 where
+  pub fresh : is_rest s.head.due ≡ false → (s.head.fill ≡ []) × (s.choices ≡ [])
+  pub late : s.ended ≡ true → is_rest s.head.due ≡ true
+
+-- a text in four parts, where a part gains something
+gains_second : (a b c more : List ℕ) → c ≡ [] → (a ++ (b ++ more) ++ c) ++ [] ≡ (a ++ b ++ c ++ []) ++ more
+gains_second a b c more e = rw e (simp (append_assoc, append-nil))
+
+record Adds (s t : StartReader) (line : List ℕ) : Type 0 where
+  text : told t ≡ told s ++ (line ++ newline)
+  kept : Keeps t
+
+rest_kept : (s t : StartReader) → is_rest s.head.due ≡ true → t.head.due ≡ s.head.due → Keeps t
+rest_kept s t rest same =
+    let r : is_rest t.head.due ≡ true = ap is_rest same ∙ rest in
+    record { fresh = λ e. (let no : true ≡ false = sym r ∙ e in let never : ⊥ = cc in absurd never); late = λ _. r }
+
+filled : (f : Fill) (choices : List Choice) (s : StartReader) (line : List ℕ) → s.choices ≡ choices → s.ended ≡ false → is_rest s.head.due ≡ true → line ++ newline ≡ fill_line f → Adds s (with_start_fill f choices s) line
+unfolding told
+filled f [] s line is on rest text = record {
+  text =
+      ap (λ l. told_due start_header s.head.due s.head ++ l ++ flat_map choice_lines s.choices ++ end_told s.ended) (flat_map-last fill_line s.head.fill f)
+      ∙ rw (is, on, ← text) (simp (append_assoc, append-nil));
+  kept = rest_kept s (with_start_fill f [] s) rest refl;
+}
+filled f (c ∷ cs) s line is on rest text = record {
+  text =
+      ap (λ l. told_due start_header s.head.due s.head ++ flat_map fill_line s.head.fill ++ l ++ end_told s.ended) (flat_map-with_last choice_lines (with_fill f) (fill_line f) (λ x. choice_gains f x) c cs)
+      ∙ rw (is, on, ← text) (simp (append_assoc, append-nil));
+  kept = rest_kept s (with_start_fill f (c ∷ cs) s) rest refl;
+}
+
+chosen : (c : Choice) (s : StartReader) (line : List ℕ) → s.ended ≡ false → is_rest s.head.due ≡ true → line ++ newline ≡ choice_lines c → Adds s (record s { choices = s.choices ++ c ∷ [] }) line
+unfolding told
+chosen c s line on rest text = record {
+  text =
+      ap (λ l. told_due start_header s.head.due s.head ++ flat_map fill_line s.head.fill ++ l ++ end_told s.ended) (flat_map-last choice_lines s.choices c)
+      ∙ rw (on, ← text) (simp (append_assoc, append-nil));
+  kept = rest_kept s (record s { choices = s.choices ++ c ∷ [] }) rest refl;
+}
+
+closed : (s : StartReader) (line : List ℕ) → s.ended ≡ false → is_rest s.head.due ≡ true → line ++ newline ≡ codes "end" ++ newline → Adds s (record s { ended = true }) line
+unfolding told
+closed s line on rest text = record {
+  text = rw (on, text) (simp (append_assoc, append-nil));
+  kept = rest_kept s (record s { ended = true }) rest refl;
+}
+
+choice_text : (fs : List (List ℕ)) (c : Choice) → choice_of fs ≡ Some c → (codes "choice" ++ spaced fs) ++ newline ≡ choice_lines c
+unfolding choice_lines
+choice_text fs c e = (let h = choice_told fs c e in rw (h.text, h.no_fill) (sym (append-nil (codes "choice" ++ choice_fields c ++ newline))))
+
+by_word : (s t : StartReader) (word line : List ℕ) (fs : List (List ℕ)) (fill choice end : Bool) → fields line ≡ word ∷ fs → s.ended ≡ false → is_rest s.head.due ≡ true
+    → bytes_eq word (codes "fill") ≡ fill → bytes_eq word (codes "choice") ≡ choice → bytes_eq word (codes "end") ≡ end
+    → (if fill then or_field (option_map (λ f. with_start_fill f s.choices s) (fill_of fs))
+      else if choice then or_field (option_map (λ (c : Choice). record s { choices = s.choices ++ c ∷ [] }) (choice_of fs))
+      else if end then or_field (no_more (record s { ended = true }) fs)
+      else Err WORD) ≡ Ok t
+    → Adds s t line
+by_word s t word line fs true choice end parts on rest e f g h =
+    let m = mapped _ (fill_of fs) t (field_made _ t h) in
+    let is : line ≡ codes "fill" ++ spaced fs = fields_back line word fs parts ∙ ap (λ w. w ++ spaced fs) ((bytes_eq-Decides word (codes "fill")).0 e) in
+    subst (λ (u : StartReader). Adds s u line) m.2 (filled m.0 s.choices s line refl on rest (ap (λ l. l ++ newline) is ∙ fill_told fs m.0 m.1))
+by_word s t word line fs false true end parts on rest e f g h =
+    let m = mapped _ (choice_of fs) t (field_made _ t h) in
+    let is : line ≡ codes "choice" ++ spaced fs = fields_back line word fs parts ∙ ap (λ w. w ++ spaced fs) ((bytes_eq-Decides word (codes "choice")).0 f) in
+    subst (λ (u : StartReader). Adds s u line) m.2 (chosen m.0 s line on rest (ap (λ l. l ++ newline) is ∙ choice_text fs m.0 m.1))
+by_word s t word line fs false false true parts on rest e f g h =
+    let d = is_done _ t fs (field_made _ t h) in
+    let is : line ≡ codes "end" ++ spaced fs = fields_back line word fs parts ∙ ap (λ w. w ++ spaced fs) ((bytes_eq-Decides word (codes "end")).0 g) in
+    subst (λ (u : StartReader). Adds s u line) d.same (closed s line on rest (ap (λ l. l ++ newline) is ∙ ap (λ gs. (codes "end" ++ spaced gs) ++ newline) d.none))
+by_word s t word line fs false false false parts on rest e f g h = cc
+
+by_fields : (s t : StartReader) (line : List ℕ) (fs : List (List ℕ)) → fields line ≡ fs → s.ended ≡ false → is_rest s.head.due ≡ true → start_rest s fs ≡ Ok t → Adds s t line
+unfolding start_rest
+by_fields s t line [] parts on rest h = cc
+by_fields s t line (word ∷ fs) parts on rest h =
+    by_word s t word line fs (bytes_eq word (codes "fill")) (bytes_eq word (codes "choice")) (bytes_eq word (codes "end")) parts on rest refl refl refl h
+
+pub within_made : {A B : Type 0} (whole : A → B) (r : Result A ℕ) (b : B) → within whole r ≡ Ok b → (a : A) × (r ≡ Ok a) × (whole a ≡ b)
+within_made whole (Ok a) b h = (a, refl, cc)
+within_made whole (Err kind) b h = cc
+
+by_due : (s t : StartReader) (line : List ℕ) (rest : Bool) → is_rest s.head.due ≡ rest → Keeps s → s.ended ≡ false
+    → (if rest then start_rest s (fields line) else within (λ (h : Head). record s { head = h }) (head_step start_header s.head line)) ≡ Ok t → Adds s t line
+unfolding told head_step
+by_due s t line true is kept on h = by_fields s t line (fields line) refl on is h
+by_due s t line false is kept on h =
+    let m = within_made _ (head_step start_header s.head line) t h in
+    let line_told = due_told start_header s.head.due s.head m.0 line m.1 in
+    let none = kept.fresh is in
+    let no_fill : m.0.fill ≡ [] = line_told.fill ∙ none.0 in
+    subst (λ (u : StartReader). Adds s u line) m.2 (record {
+      text = rw (no_fill, none.0, none.1, on, line_told.text) (simp (append_assoc, append-nil));
+      kept = record { fresh = λ _. (no_fill, none.1); late = λ e. (let no : true ≡ false = sym e ∙ on in let never : ⊥ = cc in absurd never) };
+    })
+
+pub tells : Tells start_grammar Keeps told
+unfolding start_step
+tells = record {
+  keeps = λ s t line kept on is. (by_due s t line (is_rest s.head.due) refl kept on is).kept;
+  adds = λ s t line kept on is. (by_due s t line (is_rest s.head.due) refl kept on is).text;
+}
+
+at_rest : (d : Due) (h : Head) → is_rest d ≡ true → told_due start_header d h ≡ told_due start_header due.Rest h
+unfolding told_due
+at_rest due.Header h e = cc
+at_rest due.Regs h e = cc
+at_rest due.Flags h e = cc
+at_rest due.Bases h e = cc
+at_rest due.Rest h e = refl
+
+pub start_told : (text : List ℕ) (s : StartFile) → StatesStart text s → text ≡ start_text s
+unfolding told told_due start_text start_lines
+start_told text s h =
+    let kept : Keeps no_start = record { fresh = λ _. (refl, refl); late = λ e. cc } in
+    let last = kept_lines start_grammar Keeps told tells (lines text) 1 no_start h.read kept h.reads in
+    told_text start_grammar Keeps told tells no_start h.read text kept refl h.reads
+    ∙ ap (λ l. l ++ flat_map fill_line h.read.head.fill ++ flat_map choice_lines h.read.choices ++ end_told h.read.ended) (at_rest h.read.head.due h.read.head (last.0.late last.1))
+    ∙ rw (last.1, ← h.is.regs, ← h.is.flags, ← h.is.fs, ← h.is.gs, ← h.is.fill, ← h.is.choices) (simp append_assoc)
