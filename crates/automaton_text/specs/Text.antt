@@ -1,5 +1,5 @@
--- The text of an automaton, version 1: lines of ASCII, each ended by one byte 0A.
-use Rattle.std.specs.Prelude.{ℕ, List, [], ◌∷◌, ◌++◌, length, Option, None, Some, codes, decimal, flat_map, if◌then◌else◌, ◌==◌, All}
+-- The text of an automaton, versions 1 and 2: lines of ASCII, each ended by one byte 0A.
+use Rattle.std.specs.Prelude.{◌≡◌, ℕ, Bool, is_some, map, ◌||◌, List, [], ◌∷◌, ◌++◌, length, Option, None, Some, codes, decimal, flat_map, if◌then◌else◌, ◌==◌, All}
 use Rattle.memory_map.specs.Image.{EXIT_PLACE}
 use Rattle.text_fields.specs.Hex.{hex8, hex_text}
 use Rattle.text_fields.specs.Line.{newline, space}
@@ -16,8 +16,8 @@ use Rattle.automaton_text.specs.declared.automaton.Location.{Location}
 use Rattle.automaton_text.specs.declared.automaton.OpenMark.{OpenMark}
 use Rattle.automaton_text.specs.declared.automaton.Automaton.{Automaton}
 
-abbrev pub header_line : List ℕ
-header_line = codes "jakstab-automaton 1" ++ newline
+abbrev pub header_line : ℕ → List ℕ
+header_line version = codes "jakstab-automaton " ++ decimal version ++ newline
 
 abbrev pub entry_line : ℕ → List ℕ
 entry_line a = codes "entry " ++ hex8 a ++ newline
@@ -58,8 +58,13 @@ cause_text causes.Block = codes "block"
 cause_text causes.Code = codes "code"
 cause_text causes.Budget = codes "budget"
 
+-- the row, where there is one
+abbrev pub row_suffix : Option ℕ → List ℕ
+row_suffix None = []
+row_suffix (Some row) = space ++ decimal row
+
 unfoldable pub open_line : OpenMark → List ℕ
-open_line m = codes "open " ++ hex8 m.at ++ space ++ cause_text m.cause ++ newline
+open_line m = codes "open " ++ hex8 m.at ++ space ++ cause_text m.cause ++ row_suffix m.row ++ newline
 
 -- how many locations, edges and marks there are
 abbrev pub end_line : ℕ → ℕ → ℕ → List ℕ
@@ -67,7 +72,7 @@ end_line locations edges marks = codes "end " ++ decimal locations ++ space ++ d
 
 unfoldable pub text_of : Automaton → List ℕ
 text_of a =
-    header_line
+    header_line a.version
     ++ entry_line a.entry
     ++ flat_map loc_line a.locations
     ++ flat_map edge_line a.edges
@@ -82,3 +87,18 @@ IsSpelled (Import name) = Unit {0}
 -- the bytes of each code label are
 abbrev pub AreSpelled : List Edge → Type 0
 AreSpelled edges = All (λ e. IsSpelled e.label) edges
+
+-- the versions of the text
+abbrev pub is_version : ℕ → Bool
+is_version version = version == 1 || version == 2
+
+-- each mark has a row exactly in version 2
+abbrev pub HaveRowsBy : ℕ → List OpenMark → Type 0
+HaveRowsBy version marks = All (λ m. is_some m.row ≡ (version == 2)) marks
+
+abbrev pub without_row : OpenMark → OpenMark
+without_row m = record m { row = None }
+
+-- the same automaton as version 1 tells it
+abbrev pub as_version_1 : Automaton → Automaton
+as_version_1 a = record a { version = 1; marks = map without_row a.marks }

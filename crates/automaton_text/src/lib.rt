@@ -5,6 +5,7 @@
 
 mod automaton;
 mod print;
+mod versions;
 
-pub use automaton::{Automaton, Location, OpenMark, sorted_marks};
+pub use automaton::{Automaton, Location, OpenMark, first_marks, sorted_marks};
 pub use print::print_automaton;

@@ -1,5 +1,5 @@
-ghost use Rattle.std.specs.Prelude.{◌≡◌, ◌≤◌, ◌++◌, length, IfOk, OnOk, flat_map};
-ghost use Rattle.automaton_text.specs.Text.{AreSpelled, IsSpelled, cause_text, code_text, edge_line, end_line, entry_line, header_line, label_text, loc_line, open_line, suffix_of, text_of};
+ghost use Rattle.std.specs.Prelude.{◌≡◌, ◌≤◌, ◌++◌, length, true, IfOk, OnOk, flat_map};
+ghost use Rattle.automaton_text.specs.Text.{AreSpelled, HaveRowsBy, IsSpelled, cause_text, code_text, edge_line, end_line, entry_line, header_line, is_version, label_text, loc_line, open_line, row_suffix, suffix_of, text_of};
 ghost use Rattle.x86_decoder.specs.Refusals.{IsSpelling};
 
 use crate::{Automaton, Location, OpenMark};
@@ -14,21 +14,32 @@ use x86_syntax::write_instr;
 /// The address at which a run has exited.
 const EXIT_PLACE: u32 = USER_END;
 
-/// The text of an automaton, version 1: a line for each location, edge and open mark in the order that they stand in, and
-/// their counts. Only want of memory refuses.
+/// The text of an automaton: a line for each location, edge and open mark in the order that they stand in, and their counts.
+/// Only want of memory refuses.
 #[tactic(auto, unfolding(crate::specs::Text::text_of), using(std::proofs::Common::append_assoc))]
 pub fn print_automaton(alloc: Global, a: &Automaton) -> Result<Vec<u8>, NoMemory>
-    requires { AreSpelled a.now.edges }
+    requires spelled { AreSpelled a.now.edges }
+    requires version { is_version a.now.version ≡ true }
+    requires rows { HaveRowsBy a.now.version a.now.marks }
     ensures { IfOk result (λ text. text.items ≡ text_of a.now) }
 {
     let mut out = Vec::new(alloc);
-    push_bytes(&mut out, b"jakstab-automaton 1\n")?;
+    push_header(&mut out, a.version)?;
     push_entry(&mut out, a.entry)?;
     push_locations(&mut out, a.locations.as_slice())?;
     push_edges(&mut out, a.edges.as_slice())?;
     push_marks(&mut out, a.marks.as_slice())?;
     push_end(&mut out, a.locations.len(), a.edges.len(), a.marks.len())?;
     Ok(out)
+}
+
+#[tactic(auto, using(std::proofs::Common::append_assoc))]
+fn push_header(out: &mut Vec<u8>, version: u8) -> Result<(), NoMemory>
+    ensures { OnOk result (out.new.items ≡ out.old.items ++ header_line version) }
+{
+    push_bytes(out, b"jakstab-automaton ")?;
+    push_decimal(out, u64::from(version))?;
+    push_bytes(out, b"\n")
 }
 
 #[tactic(auto, using(std::proofs::Common::append_assoc))]
@@ -132,6 +143,19 @@ fn push_cause(out: &mut Vec<u8>, cause: Cause) -> Result<(), NoMemory>
     }
 }
 
+#[tactic(auto, using(std::proofs::Common::append_assoc))]
+fn push_row(out: &mut Vec<u8>, row: Option<u32>) -> Result<(), NoMemory>
+    ensures { OnOk result (out.new.items ≡ out.old.items ++ row_suffix row) }
+{
+    match row {
+        None => Ok(()),
+        Some(row) => {
+            push_bytes(out, b" ")?;
+            push_decimal(out, u64::from(row))
+        }
+    }
+}
+
 #[tactic(auto, unfolding(crate::specs::Text::open_line), using(std::proofs::Common::append_assoc))]
 fn push_mark(out: &mut Vec<u8>, m: OpenMark) -> Result<(), NoMemory>
     ensures { OnOk result (out.new.items ≡ out.old.items ++ open_line m) }
@@ -140,6 +164,7 @@ fn push_mark(out: &mut Vec<u8>, m: OpenMark) -> Result<(), NoMemory>
     push_hex8(out, m.at)?;
     push_bytes(out, b" ")?;
     push_cause(out, m.cause)?;
+    push_row(out, m.row)?;
     push_bytes(out, b"\n")
 }
 

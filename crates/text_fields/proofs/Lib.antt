@@ -1,3 +1,4 @@
 pub mod DecimalFacts
+pub mod FieldFacts
 pub mod HexFacts
 pub mod LineFacts

@@ -1,4 +1,5 @@
 pub mod Decimal
+pub mod Fields
 pub mod Hex
 pub mod Line
 pub mod Lines

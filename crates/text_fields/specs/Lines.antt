@@ -20,7 +20,28 @@ pub record Grammar (S : Type 0) : Type 0 where
   pub step : S → List ℕ → Result S ℕ
   pub is_ended : S → Bool
 
--- the kind of a text that stops before its end or goes on after it
+-- The kinds of faults: of the first line; of a first word that is unknown or out of its order; of the number or the form of
+-- fields; of a line that does not stand above the one before it; of a count; of what a line says; and of a text that stops
+-- before its end or goes on after it.
+
+abbrev pub HEADER : ℕ
+HEADER = 1
+
+abbrev pub WORD : ℕ
+WORD = 2
+
+abbrev pub FIELD : ℕ
+FIELD = 3
+
+abbrev pub ORDER : ℕ
+ORDER = 4
+
+abbrev pub COUNT : ℕ
+COUNT = 5
+
+abbrev pub CONTENT : ℕ
+CONTENT = 6
+
 abbrev pub END : ℕ
 END = 7
 

@@ -3,6 +3,7 @@
 // Its contract: each writer appends exactly its text, each reader gives exactly the number that its text writes, and a text is refused exactly at its first bad line.
 #![tactic(auto)]
 
+mod fields;
 mod line_fault;
 mod lines;
 mod readers;
@@ -10,7 +11,10 @@ mod readers;
 mod tests;
 mod writers;
 
-pub use line_fault::{LineFault, LineRefusal, TextFault};
+pub use fields::Fields;
+pub use line_fault::{
+    CONTENT, COUNT, END, FIELD, HEADER, LineFault, LineRefusal, ORDER, TextFault, WORD,
+};
 pub use lines::{LineReader, read_lines, split_field, split_line};
 pub use readers::{
     decimal_is, parse_decimal, parse_hex_bytes, parse_hex2, parse_hex8, parse_hex8_any_case,

@@ -2,11 +2,8 @@ ghost use Rattle.std.specs.Prelude.{◌≡◌, ◌<◌, ◌==◌, ◌∷◌, [],
 ghost use Rattle.std.specs.List.{slice_split};
 ghost use Rattle.text_fields.specs.Lines.{Grammar, IsFaultOf, IsRefusalOf, end_fault, fields, lines, read_text};
 
-use crate::{LineFault, LineRefusal, TextFault};
+use crate::{END, LineFault, LineRefusal, TextFault};
 use std::alloc::Global;
-
-/// The kind of fault of a text that stops before its end or goes on after it.
-pub const END: u8 = 7;
 
 /// What reads a kind of text, a line at a time.
 pub trait LineReader {
