@@ -13,7 +13,8 @@ use Rattle.x86_machine.specs.StartLaws.{IsFill}
 use Rattle.run_replayer.specs.declared.record.EndWord.{EndWord}
 use Rattle.run_replayer.specs.declared.record.EndWord.TheVariants as ends
 use Rattle.run_replayer.specs.declared.record.RunStep.{RunStep}
-use Rattle.run_replayer.specs.Fields.{bases_of, bit_of, bits_of, byte_of, choice_of, end_of, ending_of, fill_bytes_of, fill_of, flags_of, regs_of, six_flags_of, step_of, then_field, truth_of, word_of}
+use Rattle.text_fields.specs.Fields.{byte_of, then_field, word_of}
+use Rattle.run_replayer.specs.Fields.{bases_of, bit_of, bits_of, choice_of, end_of, ending_of, fill_bytes_of, fill_of, flags_of, regs_of, six_flags_of, step_of, truth_of}
 use Rattle.run_replayer.specs.Texts.{end_word, flag_digits, truth_digit}
 use Rattle.run_replayer.specs.Laws.{IsChoice, IsStep}
 use Rattle.run_replayer.proofs.FieldTexts.{byte_read, truth_read, word_read}

@@ -7,7 +7,8 @@ use Rattle.std.proofs.lemmas.Slice.Eq.{bytes_eq-Decides}
 use Rattle.text_fields.specs.Hex.{hex2, hex8, hex_bytes, hex_digits, hex_number, hex_text, number_after}
 use Rattle.text_fields.proofs.HexFacts.{digits_after, number_back, length-hex_digits}
 use Rattle.memory_map.specs.Fill.{fits_fill}
-use Rattle.run_replayer.specs.Fields.{bit_of, bits_of, byte_of, fill_bytes_of, flags_of, no_more, then_field, truth_of, word_of}
+use Rattle.text_fields.specs.Fields.{byte_of, no_more, then_field, word_of}
+use Rattle.run_replayer.specs.Fields.{bit_of, bits_of, fill_bytes_of, flags_of, truth_of}
 use Rattle.run_replayer.specs.Texts.{flag_digits, truth_digit}
 
 -- a field was read, and what is behind it

@@ -10,7 +10,8 @@ use Rattle.run_replayer.specs.declared.head.Due.{Due}
 use Rattle.run_replayer.specs.declared.head.Due.TheVariants as due
 use Rattle.run_replayer.specs.declared.head.Head.{Head}
 use Rattle.run_replayer.specs.Fields.{bases_of, regs_of, six_flags_of}
-use Rattle.run_replayer.specs.Grammar.{HEADER, WORD, behind, behind_word, due_step, head_step, is_rest, or_field, or_word}
+use Rattle.text_fields.specs.Lines.{HEADER, WORD}
+use Rattle.run_replayer.specs.Grammar.{behind, behind_word, due_step, head_step, is_rest, or_field, or_word}
 use Rattle.run_replayer.specs.Texts.{bases_line, flags_line, regs_line}
 use Rattle.run_replayer.proofs.LineTexts.{bases_told, flags_told, regs_told}
 use Rattle.run_replayer.proofs.Splitting.{fields_back, spaced}

@@ -3,10 +3,11 @@ pub mod Searching
 pub mod Replays
 pub mod Once
 pub mod Leaving
-pub mod FieldFacts
 pub mod Splitting
 pub mod FieldTexts
 pub mod LineTexts
 pub mod HeadTold
 pub mod StartTold
 pub mod RecordTold
+pub mod FieldReads
+pub mod RecordRead

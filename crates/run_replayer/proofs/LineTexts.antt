@@ -10,7 +10,8 @@ use Rattle.memory_map.specs.declared.choice.Fill.{Fill}
 use Rattle.run_replayer.specs.declared.record.EndWord.{EndWord}
 use Rattle.run_replayer.specs.declared.record.EndWord.TheVariants as ends
 use Rattle.run_replayer.specs.declared.record.RunStep.{RunStep}
-use Rattle.run_replayer.specs.Fields.{bases_of, byte_of, choice_of, end_of, end_words, ending_of, fill_bytes_of, fill_of, flags_of, regs_of, six_flags_of, step_of, truth_of, word_of}
+use Rattle.text_fields.specs.Fields.{byte_of, word_of}
+use Rattle.run_replayer.specs.Fields.{bases_of, choice_of, end_of, end_words, ending_of, fill_bytes_of, fill_of, flags_of, regs_of, six_flags_of, step_of, truth_of}
 use Rattle.run_replayer.specs.Texts.{bases_line, choice_fields, end_word, fill_line, flag_digits, flags_line, regs_line, truth_digit, word_field, word_fields}
 use Rattle.run_replayer.proofs.FieldTexts.{HasField, IsDone, byte_is, fill_bytes_is, flags_is, has_field, is_done, truth_is, word_is}
 use Rattle.run_replayer.proofs.Splitting.{spaced}

@@ -14,7 +14,8 @@ use Rattle.run_replayer.specs.declared.head.Due.TheVariants as due
 use Rattle.run_replayer.specs.declared.head.Head.{Head}
 use Rattle.run_replayer.specs.declared.record_reader.RecordReader.{RecordReader}
 use Rattle.run_replayer.specs.Fields.{ending_of, fill_of, step_of}
-use Rattle.run_replayer.specs.Grammar.{StatesRecord, WORD, head_step, is_rest, no_record, or_field, record_grammar, record_rest, record_step, with_last, with_record_fill, with_step_fill, within}
+use Rattle.text_fields.specs.Lines.{WORD}
+use Rattle.run_replayer.specs.Grammar.{StatesRecord, head_step, is_rest, no_record, or_field, record_grammar, record_rest, record_step, with_last, with_record_fill, with_step_fill, within}
 use Rattle.run_replayer.specs.Texts.{choice_fields, end_word, fill_line, record_header, record_text, start_lines, step_lines, word_field}
 use Rattle.run_replayer.proofs.HeadTold.{due_told, field_made, mapped, told_due}
 use Rattle.run_replayer.proofs.LineTexts.{ending_told, fill_told, step_told}

@@ -12,8 +12,10 @@ use Rattle.run_replayer.specs.declared.head.Due.{Due}
 use Rattle.run_replayer.specs.declared.head.Due.TheVariants as due
 use Rattle.run_replayer.specs.declared.head.Head.{Head}
 use Rattle.run_replayer.specs.declared.start_reader.StartReader.{StartReader}
-use Rattle.run_replayer.specs.Fields.{choice_of, fill_of, no_more}
-use Rattle.run_replayer.specs.Grammar.{IsStart, StatesStart, WORD, head_step, is_rest, no_start, or_field, start_grammar, start_rest, start_step, with_fill, with_head_fill, with_last, with_start_fill, within}
+use Rattle.text_fields.specs.Fields.{no_more}
+use Rattle.run_replayer.specs.Fields.{choice_of, fill_of}
+use Rattle.text_fields.specs.Lines.{WORD}
+use Rattle.run_replayer.specs.Grammar.{IsStart, StatesStart, head_step, is_rest, no_start, or_field, start_grammar, start_rest, start_step, with_fill, with_head_fill, with_last, with_start_fill, within}
 use Rattle.run_replayer.specs.Texts.{choice_fields, choice_lines, fill_line, start_header, start_lines, start_text}
 use Rattle.run_replayer.proofs.FieldTexts.{is_done}
 use Rattle.run_replayer.proofs.HeadTold.{due_told, field_made, mapped, told_due}

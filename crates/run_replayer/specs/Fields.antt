@@ -4,20 +4,14 @@ use Rattle.std.specs.Str.{bytes_eq}
 use Rattle.memory_map.specs.declared.choice.Choice.{Choice}
 use Rattle.memory_map.specs.declared.choice.Fill.{Fill}
 use Rattle.memory_map.specs.Fill.{fits_fill}
-use Rattle.text_fields.specs.Hex.{hex_bytes, hex_number}
+use Rattle.text_fields.specs.Fields.{byte_of, no_more, then_field, word_of}
+use Rattle.text_fields.specs.Hex.{hex_bytes}
 use Rattle.run_replayer.specs.declared.record.EndWord.{EndWord}
 use Rattle.run_replayer.specs.declared.record.EndWord.TheVariants as ends
 use Rattle.run_replayer.specs.declared.record.RunStep.{RunStep}
 use Rattle.run_replayer.specs.Texts.{end_word}
 
 -- ---- forms of fields
-
--- two digits, and eight
-abbrev pub byte_of : List ℕ → Option ℕ
-byte_of field = hex_number 2 field
-
-abbrev pub word_of : List ℕ → Option ℕ
-word_of field = hex_number 8 field
 
 -- 0 or 1
 abbrev pub bit_of : ℕ → Option ℕ
@@ -45,16 +39,7 @@ end_words = ends.Steps ∷ ends.Exited ∷ ends.Faulted ∷ ends.NotListed ∷ e
 abbrev pub end_of : List ℕ → Option EndWord
 end_of field = find (λ end. bytes_eq (end_word end) field) end_words
 
--- ---- fields one after another
-
--- a field of this form, and then what its value makes of the fields behind it
-unfoldable pub then_field : {A B : Type 0} → (List ℕ → Option A) → List (List ℕ) → (A → List (List ℕ) → Option B) → Option B
-then_field form [] go = None
-then_field form (field ∷ others) go = option_and_then (λ a. go a others) (form field)
-
--- and no more
-abbrev pub no_more : {A : Type 0} → A → List (List ℕ) → Option A
-no_more a fs = if length fs == 0 then Some a else None
+-- ---- lines
 
 -- EAX ECX EDX EBX ESP EBP ESI EDI
 unfoldable pub regs_of : List (List ℕ) → Option (List ℕ)

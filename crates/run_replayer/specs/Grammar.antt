@@ -4,8 +4,9 @@ use Rattle.std.specs.Option.{ok_or}
 use Rattle.std.specs.Str.{bytes_eq}
 use Rattle.memory_map.specs.declared.choice.Choice.{Choice}
 use Rattle.memory_map.specs.declared.choice.Fill.{Fill}
+use Rattle.text_fields.specs.Fields.{no_more}
 use Rattle.text_fields.specs.declared.line_fault.LineFault.{LineFault}
-use Rattle.text_fields.specs.Lines.{Grammar, fields, read_text}
+use Rattle.text_fields.specs.Lines.{FIELD, Grammar, HEADER, WORD, fields, read_text}
 use Rattle.x86_machine.specs.declared.start_file.StartFile.{StartFile}
 use Rattle.run_replayer.specs.declared.head.Due.{Due}
 use Rattle.run_replayer.specs.declared.head.Due.TheVariants as due
@@ -14,19 +15,10 @@ use Rattle.run_replayer.specs.declared.record.RunStep.{RunStep}
 use Rattle.run_replayer.specs.declared.record.RunRecord.{RunRecord}
 use Rattle.run_replayer.specs.declared.start_reader.StartReader.{StartReader}
 use Rattle.run_replayer.specs.declared.record_reader.RecordReader.{RecordReader}
-use Rattle.run_replayer.specs.Fields.{bases_of, choice_of, ending_of, fill_of, no_more, regs_of, six_flags_of, step_of}
+use Rattle.run_replayer.specs.Fields.{bases_of, choice_of, ending_of, fill_of, regs_of, six_flags_of, step_of}
 use Rattle.run_replayer.specs.Texts.{record_header, start_header}
 
--- ---- kinds of faults: of the first line, of the first word of a line, and of the number or the form of its other fields
-
-abbrev pub HEADER : ℕ
-HEADER = 1
-
-abbrev pub WORD : ℕ
-WORD = 2
-
-abbrev pub FIELD : ℕ
-FIELD = 3
+-- ---- fields behind a first word
 
 -- what fields make, or a fault of theirs
 abbrev pub or_field : {A : Type 0} → Option A → Result A ℕ

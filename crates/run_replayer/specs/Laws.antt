@@ -14,9 +14,9 @@ use Rattle.run_replayer.specs.declared.record.RunRecord.{RunRecord}
 use Rattle.run_replayer.specs.declared.verdict.Verdict.{Verdict}
 use Rattle.run_replayer.specs.declared.verdict.Verdict.TheVariants.{NotAnEdge}
 use Rattle.run_replayer.specs.declared.record.RunStep.{RunStep}
-use Rattle.run_replayer.specs.Grammar.{StatesRecord, StatesStart}
+use Rattle.run_replayer.specs.Grammar.{StatesRecord}
 use Rattle.run_replayer.specs.Record.{RecordOf}
-use Rattle.run_replayer.specs.Texts.{record_text, start_text}
+use Rattle.run_replayer.specs.Texts.{record_text}
 use Rattle.run_replayer.specs.Verdict.{VerdictOf, open_of}
 
 -- ---- what every choice and step of a record keeps: words, and fills of 1 to 1,024 bytes
@@ -35,10 +35,6 @@ pub record IsStep (s : RunStep) : Type 0 where
   pub choice : IsChoice s.choice
 
 -- ---- texts
-
--- the text of a start file is read as that start file
-abbrev pub StartTextsAreRead : Type 0
-StartTextsAreRead = (s : StartFile) → IsStartFile s → All IsChoice s.choices → StatesStart (start_text s) s
 
 -- the text of a record is read as that record
 abbrev pub RecordTextsAreRead : Type 0

@@ -1,6 +1,5 @@
 pub mod Texts
 pub mod Fields
-pub mod FieldReads
 pub mod Grammar
 pub mod StartRefused
 pub mod Record

@@ -1,107 +1,43 @@
-ghost use Rattle.std.specs.Prelude.{◌≡◌, ◌<◌, ◌^◌, [], ◌∷◌, IfOk, IfSome, IsTrue, Some, MatchOption, MatchResult, length, option_copied, option_map};
-ghost use Rattle.text_fields.specs.Lines.{fields};
-ghost use Rattle.run_replayer.specs.Fields.{bases_of, bit_of, bits_of, byte_of, choice_of, end_of, ending_of, fill_bytes_of, fill_of, flags_of, regs_of, six_flags_of, step_of, truth_of, word_of};
-ghost use Rattle.run_replayer.specs.FieldReads.{Lacks, Reads};
+ghost use Rattle.std.specs.Prelude.{◌≡◌, ◌<◌, ◌≤◌, ◌^◌, IfOk, IfSome, MatchOption, length};
+ghost use Rattle.run_replayer.specs.Fields.{bases_of, bit_of, bits_of, choice_of, end_of, ending_of, fill_bytes_of, fill_of, flags_of, regs_of, six_flags_of, step_of, truth_of};
+ghost use Rattle.text_fields.specs.Fields.{Lacks, Reads};
 
 use crate::print::end_word;
 use crate::six_flags::SixFlags;
 use crate::{EndWord, RunStep};
-use memory_map::{Choice, Fill, FillBytes, Items};
 use bit_words::NoMemory;
+use memory_map::{Choice, Fill, FillBytes, Items};
 use std::alloc::Global;
-use std::marker::Model;
-use text_fields::{parse_hex_bytes, parse_hex2, parse_hex8, split_field};
+use text_fields::{Fields, parse_hex_bytes};
 
-/// The fields of a line that are left to read, which contracts see as their list.
-pub struct Fields<'a> {
-    rest: &'a [u8],
-    ended: bool,
+// The next field's flags, where it has six.
+fn next_flags(fields: &mut Fields) -> Option<SixFlags>
+    ensures { MatchOption result (Lacks flags_of fields.old) (λ f. Reads flags_of fields.old f fields.new) }
+{
+    flags_of(fields.next_field()?)
 }
 
-impl<'a> Model for Fields<'a> {
-    ghost use Rattle.std.specs.Prelude.{ℕ, List};
-    ghost use Rattle.run_replayer.specs.FieldReads.{fields_left};
-
-    ghost Value = { List (List ℕ) };
-
-    ghost view = { λ f. fields_left f.ended f.rest.now };
+// The next field's truth.
+fn next_truth(fields: &mut Fields) -> Option<bool>
+    ensures { MatchOption result (Lacks truth_of fields.old) (λ b. Reads truth_of fields.old b fields.new) }
+{
+    truth_of(fields.next_field()?)
 }
 
-impl<'a> Fields<'a> {
-    /// All fields of a line.
-    pub fn of(line: &'a [u8]) -> Fields<'a>
-        ensures { result ≡ fields line.now }
-    {
-        Fields {
-            rest: line,
-            ended: false,
-        }
-    }
+// The next field's word of an end.
+fn next_end(fields: &mut Fields) -> Option<EndWord>
+    ensures { MatchOption result (Lacks end_of fields.old) (λ end. Reads end_of fields.old end fields.new) }
+{
+    end_of(fields.next_field()?)
+}
 
-    /// The next field.
-    pub fn next_field(&mut self) -> Option<&'a [u8]>
-        ensures { MatchOption result ((self.old ≡ []) × (self.new ≡ [])) (λ field. self.old ≡ field.now ∷ self.new) }
-    {
-        if self.ended {
-            return None;
-        }
-        let line = self.rest;
-        match split_field(line) {
-            Some((field, behind)) => {
-                self.rest = behind;
-                Some(field)
-            }
-            None => {
-                self.ended = true;
-                Some(line)
-            }
-        }
-    }
-
-    /// Whether no field was left; takes the next one off.
-    fn is_done(&mut self) -> bool
-        ensures { result ≡ (length self.old == 0) }
-    {
-        self.next_field().is_none()
-    }
-
-    fn next_byte(&mut self) -> Option<u8>
-        ensures { MatchOption result (Lacks byte_of self.old) (λ b. Reads byte_of self.old b self.new) }
-    {
-        parse_hex2(self.next_field()?)
-    }
-
-    fn next_word(&mut self) -> Option<u32>
-        ensures { MatchOption result (Lacks word_of self.old) (λ n. Reads word_of self.old n self.new) }
-    {
-        parse_hex8(self.next_field()?)
-    }
-
-    fn next_flags(&mut self) -> Option<SixFlags>
-        ensures { MatchOption result (Lacks flags_of self.old) (λ f. Reads flags_of self.old f self.new) }
-    {
-        flags_of(self.next_field()?)
-    }
-
-    fn next_truth(&mut self) -> Option<bool>
-        ensures { MatchOption result (Lacks truth_of self.old) (λ b. Reads truth_of self.old b self.new) }
-    {
-        truth_of(self.next_field()?)
-    }
-
-    fn next_end(&mut self) -> Option<EndWord>
-        ensures { MatchOption result (Lacks end_of self.old) (λ end. Reads end_of self.old end self.new) }
-    {
-        end_of(self.next_field()?)
-    }
-
-    fn next_fill_bytes(&mut self, alloc: Global) -> Result<Option<FillBytes>, NoMemory>
-        ensures { IfOk result (λ read. MatchOption read (Lacks fill_bytes_of self.old) (λ bytes. Reads fill_bytes_of self.old bytes self.new)) }
-    {
-        match self.next_field() {
-            Some(field) => fill_bytes_of(alloc, field),
-            None => Ok(None),
-        }
+// The next field's bytes of a fill.
+fn next_fill_bytes(alloc: Global, fields: &mut Fields) -> Result<Option<FillBytes>, NoMemory>
+    ensures { IfOk result (λ read. MatchOption read (Lacks fill_bytes_of fields.old) (λ bytes. Reads fill_bytes_of fields.old bytes fields.new)) }
+{
+    match fields.next_field() {
+        Some(field) => fill_bytes_of(alloc, field),
+        None => Ok(None),
     }
 }
 
@@ -179,7 +115,7 @@ fn fill_bytes_of(alloc: Global, field: &[u8]) -> Result<Option<FillBytes>, NoMem
 }
 
 /// EAX ECX EDX EBX ESP EBP ESI EDI.
-#[tactic(auto, unfolding(crate::specs::Fields::regs_of), using(crate::proofs::FieldFacts::then_reads, crate::proofs::FieldFacts::then_lacks))]
+#[tactic(auto, unfolding(crate::specs::Fields::regs_of), using(text_fields::proofs::FieldFacts::then_reads, text_fields::proofs::FieldFacts::then_lacks))]
 pub fn regs_of(mut fields: Fields) -> Option<[u32; 8]>
     ensures { result ≡ regs_of fields }
 {
@@ -197,16 +133,16 @@ pub fn regs_of(mut fields: Fields) -> Option<[u32; 8]>
 }
 
 /// Six flags in one field.
-#[tactic(auto, unfolding(crate::specs::Fields::six_flags_of), using(crate::proofs::FieldFacts::then_reads, crate::proofs::FieldFacts::then_lacks))]
+#[tactic(auto, unfolding(crate::specs::Fields::six_flags_of), using(text_fields::proofs::FieldFacts::then_reads, text_fields::proofs::FieldFacts::then_lacks))]
 pub fn six_flags_of(mut fields: Fields) -> Option<SixFlags>
     ensures { result ≡ six_flags_of fields }
 {
-    let flags = fields.next_flags()?;
+    let flags = next_flags(&mut fields)?;
     if fields.is_done() { Some(flags) } else { None }
 }
 
 /// FS GS.
-#[tactic(auto, unfolding(crate::specs::Fields::bases_of), using(crate::proofs::FieldFacts::then_reads, crate::proofs::FieldFacts::then_lacks))]
+#[tactic(auto, unfolding(crate::specs::Fields::bases_of), using(text_fields::proofs::FieldFacts::then_reads, text_fields::proofs::FieldFacts::then_lacks))]
 pub fn bases_of(mut fields: Fields) -> Option<(u32, u32)>
     ensures { result ≡ bases_of fields }
 {
@@ -216,14 +152,14 @@ pub fn bases_of(mut fields: Fields) -> Option<(u32, u32)>
 }
 
 /// An address and the bytes from there on.
-#[tactic(auto, unfolding(crate::specs::Fields::fill_of), using(crate::proofs::FieldFacts::then_reads, crate::proofs::FieldFacts::then_lacks))]
+#[tactic(auto, unfolding(crate::specs::Fields::fill_of), using(text_fields::proofs::FieldFacts::then_reads, text_fields::proofs::FieldFacts::then_lacks))]
 pub fn fill_of(alloc: Global, mut fields: Fields) -> Result<Option<Fill>, NoMemory>
     ensures { IfOk result (λ read. read ≡ fill_of fields) }
 {
     let Some(at) = fields.next_word() else {
         return Ok(None);
     };
-    let Some(bytes) = fields.next_fill_bytes(alloc)? else {
+    let Some(bytes) = next_fill_bytes(alloc, &mut fields)? else {
         return Ok(None);
     };
     if fields.is_done() {
@@ -234,7 +170,7 @@ pub fn fill_of(alloc: Global, mut fields: Fields) -> Result<Option<Fill>, NoMemo
 }
 
 /// FLAGS EAX ECX EDX BASE FAILS, without fills.
-#[tactic(auto, unfolding(crate::specs::Fields::choice_of), using(crate::proofs::FieldFacts::then_reads, crate::proofs::FieldFacts::then_lacks))]
+#[tactic(auto, unfolding(crate::specs::Fields::choice_of), using(text_fields::proofs::FieldFacts::then_reads, text_fields::proofs::FieldFacts::then_lacks))]
 pub fn choice_of(alloc: Global, mut fields: Fields) -> Option<Choice>
     ensures { result ≡ choice_of fields }
 {
@@ -243,7 +179,7 @@ pub fn choice_of(alloc: Global, mut fields: Fields) -> Option<Choice>
     let ecx = fields.next_word()?;
     let edx = fields.next_word()?;
     let base = fields.next_word()?;
-    let fails = fields.next_truth()?;
+    let fails = next_truth(&mut fields)?;
     if !fields.is_done() {
         return None;
     }
@@ -259,7 +195,7 @@ pub fn choice_of(alloc: Global, mut fields: Fields) -> Option<Choice>
 }
 
 /// FROM TO and a choice.
-#[tactic(auto, unfolding(crate::specs::Fields::step_of), using(crate::proofs::FieldFacts::then_reads, crate::proofs::FieldFacts::then_lacks))]
+#[tactic(auto, unfolding(crate::specs::Fields::step_of), using(text_fields::proofs::FieldFacts::then_reads, text_fields::proofs::FieldFacts::then_lacks))]
 pub fn step_of(alloc: Global, mut fields: Fields) -> Option<RunStep>
     ensures { result ≡ step_of fields }
 {
@@ -270,10 +206,10 @@ pub fn step_of(alloc: Global, mut fields: Fields) -> Option<RunStep>
 }
 
 /// The word of a record's end.
-#[tactic(auto, unfolding(crate::specs::Fields::ending_of), using(crate::proofs::FieldFacts::then_reads, crate::proofs::FieldFacts::then_lacks))]
+#[tactic(auto, unfolding(crate::specs::Fields::ending_of), using(text_fields::proofs::FieldFacts::then_reads, text_fields::proofs::FieldFacts::then_lacks))]
 pub fn ending_of(mut fields: Fields) -> Option<EndWord>
     ensures { result ≡ ending_of fields }
 {
-    let end = fields.next_end()?;
+    let end = next_end(&mut fields)?;
     if fields.is_done() { Some(end) } else { None }
 }

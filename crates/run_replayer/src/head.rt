@@ -1,18 +1,12 @@
-ghost use Rattle.std.specs.Prelude.{◌≡◌, ◌++◌, ◌∷◌, Err, Ok, MatchResult, OnOk};
+ghost use Rattle.std.specs.Prelude.{◌≡◌, Err, Ok, MatchResult, OnOk};
 ghost use Rattle.text_fields.specs.Lines.{fields};
-ghost use Rattle.run_replayer.specs.Grammar.{bases_step, behind, flags_step, head_step, header_step, no_head, regs_step, with_fill, with_head_fill};
+ghost use Rattle.run_replayer.specs.Grammar.{bases_step, behind, flags_step, head_step, header_step, no_head, regs_step, with_head_fill};
 
-use crate::fields::{Fields, bases_of, regs_of, six_flags_of};
+use crate::fields::{bases_of, regs_of, six_flags_of};
 use crate::six_flags::SixFlags;
-use memory_map::{Choice, Fill, Items};
+use memory_map::{Fill, Items};
 use std::alloc::{AllocError, Global};
-
-/// The kind of fault of a first line that is none.
-pub const HEADER: u8 = 1;
-/// The kind of fault of a first word that is unknown or out of its order.
-pub const WORD: u8 = 2;
-/// The kind of fault of the number or the form of a line's other fields.
-pub const FIELD: u8 = 3;
+use text_fields::{FIELD, Fields, HEADER, WORD};
 
 /// Which line of a start file or a run record is due.
 #[derive(Clone, Copy, Debug, PartialEq, Eq)]

@@ -3,12 +3,12 @@ ghost use Rattle.text_fields.specs.Lines.{IsFaultOf, IsRefusalOf, fields};
 ghost use Rattle.run_replayer.specs.Grammar.{IsRecord, StatesRecord, no_record, record_grammar, record_read, record_rest, record_step, with_record_fill};
 ghost use Rattle.run_replayer.specs.Texts.{record_text};
 
-use crate::fields::{Fields, ending_of, fill_of, step_of};
+use crate::fields::{ending_of, fill_of, step_of};
 use crate::{EndWord, RunRecord, RunStep};
-use crate::head::{Due, FIELD, Head, WORD};
+use crate::head::{Due, Head};
 use memory_map::{Fill, Items};
 use std::alloc::{AllocError, Global};
-use text_fields::{LineReader, LineRefusal, TextFault, read_lines};
+use text_fields::{FIELD, Fields, LineReader, LineRefusal, TextFault, WORD, read_lines};
 use x86_machine::StartFile;
 
 /// What the lines of a run record have stated so far.

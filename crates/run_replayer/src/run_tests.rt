@@ -165,6 +165,7 @@ fn add_edge(a: &mut Automaton, from: u32, to: u32, bytes: [u8; 2]) -> Result<(),
 
 fn automaton(alloc: Global) -> Automaton {
     Automaton {
+        version: 1,
         entry: 0x0804_8000,
         locations: Items::new(alloc),
         edges: Items::new(alloc),
@@ -255,6 +256,7 @@ fn replays_end_at_open_locations(rt: HostRuntime) -> Result<(), Fail> {
         a.marks.push(OpenMark {
             at,
             cause: Cause::Target,
+            row: None,
         })?;
         let text = record_of(alloc, steps)?;
         assert_eq!(rt; verdict_of(alloc, &OVERLAP, &a, &text)?.as_slice(), want);

@@ -3,11 +3,11 @@ ghost use Rattle.text_fields.specs.Lines.{IsFaultOf, IsRefusalOf, fields};
 ghost use Rattle.run_replayer.specs.Grammar.{IsStart, StatesStart, no_start, start_grammar, start_read, start_rest, start_step, with_start_fill};
 ghost use Rattle.run_replayer.specs.Texts.{start_text};
 
-use crate::fields::{Fields, choice_of, fill_of};
-use crate::head::{Due, FIELD, Head, WORD};
+use crate::fields::{choice_of, fill_of};
+use crate::head::{Due, Head};
 use memory_map::{Choice, Fill, Items};
 use std::alloc::{AllocError, Global};
-use text_fields::{LineReader, LineRefusal, TextFault, read_lines};
+use text_fields::{FIELD, Fields, LineReader, LineRefusal, TextFault, WORD, read_lines};
 use x86_machine::StartFile;
 
 /// What the lines of a start file have stated so far.
