@@ -1,9 +1,8 @@
 -- How contracts see the code's flags and answers: `Cells` is the machine's state.
-use Rattle.std.specs.Prelude.{ℕ, ◌-◌, Bool, true, false, Option, None, Some, bit_and, ◌==◌, if◌then◌else◌, map, slice_get, slice_set, unwrap_or}
+use Rattle.std.specs.Prelude.{ℕ, Bool, true, false, Option, None, Some, bit_and, ◌==◌, slice_get, unwrap_or}
 use Rattle.x86_semantics.specs.Condition.{tests}
 use Rattle.bit_words.specs.declared.flags.Flags.{Flags as FlagSet}
 use Rattle.bit_words.specs.Flags.{carry_of, parity_of, adjust_of, zero_of, sign_of, overflow_of, direction_of}
-use Rattle.memory_map.specs.Range.{Range, has}
 use Rattle.memory_map.specs.State.{MachineState, Flags}
 
 -- a set of flags: those in it are set
@@ -18,10 +17,6 @@ flags_of f = record {
   direction = direction_of f;
 }
 
--- the six status flags of a set, CF PF AF ZF SF OF from bit 0 on; DF is clear
-abbrev pub status_of : FlagSet → Flags
-status_of f = record (flags_of f) { direction = false }
-
 -- the state where a call could do its work, or none where it could not
 abbrev pub where_done : Bool → MachineState → Option MachineState
 where_done true m = Some m
@@ -34,11 +29,3 @@ has_all f g = bit_and f.0 g.0 == g.0
 -- the test of the even condition of this half
 abbrev pub even_met : ℕ → Flags → Bool
 even_met half f = unwrap_or (slice_get (tests f) half) false
-
--- a range with another byte at an address, where it has it: also one that may not be written
-abbrev pub fill_byte : ℕ → ℕ → Range → Range
-fill_byte a b r = if has a r then record r { bytes = slice_set r.bytes (a - r.low) b } else r
-
--- the state with another byte in memory, also where it may not be written
-abbrev pub with_filled : ℕ → ℕ → MachineState → MachineState
-with_filled a b m = record m { stack = fill_byte a b m.stack; ranges = map (fill_byte a b) m.ranges }

@@ -2,3 +2,4 @@ pub mod Run
 pub mod Cells
 pub mod Flowing
 pub mod Indexed
+pub mod Filling

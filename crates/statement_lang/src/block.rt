@@ -1,7 +1,7 @@
 ghost use Rattle.std.specs.Prelude.{◌≡◌, ◌+◌, ◌-◌, ◌<◌, ◌≤◌, ◌^◌, Some, None, if◌then◌else◌, slice_get};
 ghost use Rattle.memory_map.specs.Map.{is_in_user_space};
 ghost use Rattle.memory_map.specs.Range.{end_of, has, holds};
-ghost use Rattle.statement_lang.specs.Cells.{fill_byte};
+ghost use Rattle.statement_lang.specs.Filling.{fill_byte};
 ghost use Rattle.statement_lang.specs.Indexed.{is_clear};
 ghost use Rattle.x86_semantics.specs.Memory.{put_byte};
 

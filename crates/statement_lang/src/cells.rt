@@ -3,16 +3,17 @@ ghost use Rattle.std.specs.List.{list_all};
 ghost use Rattle.memory_map.specs.Range.{IsInUserSpace, byte_at, code_at, code_run, has, holds, may_write, may_write_each};
 ghost use Rattle.memory_map.specs.Spans.{AreAll};
 ghost use Rattle.memory_map.specs.State.{memory};
-ghost use Rattle.x86_semantics.specs.Memory.{with_byte};
+ghost use Rattle.x86_semantics.specs.Memory.{with_byte, word_at};
 ghost use Rattle.x86_semantics.specs.Registers.{register, with_register};
 ghost use Rattle.x86_semantics.specs.Operands.{at_address, segment_base, with_flags};
-ghost use Rattle.statement_lang.specs.Cells.{flags_of, with_filled};
+ghost use Rattle.statement_lang.specs.Cells.{flags_of};
+ghost use Rattle.statement_lang.specs.Filling.{with_filled};
 ghost use Rattle.statement_lang.specs.Indexed.{is_clear, may_map};
 
 use crate::Block;
 use crate::mapped::Mapped;
 use arrayvec::ArrayVec;
-use bit_words::Flags;
+use bit_words::{Flags, Width};
 use memory_map::Regs;
 use std::alloc::{AllocError, Global};
 use std::marker::Model;
@@ -128,6 +129,17 @@ impl Cells {
         }
     }
 
+    /// The word of a width at an address, where it is mapped: none is from 2^32 on.
+    pub fn word_at(&self, w: Width, a: u64) -> Option<u32>
+        ensures { result ≡ word_at w a self.now }
+    {
+        let _ = &self.stack;
+        if a > u64::from(u32::MAX) {
+            return None;
+        }
+        self.load(w, a as u32)
+    }
+
     /// The byte at an address, where one is mapped that may be executed.
     fn code_at(&self, a: u64) -> Option<u8>
         ensures { result ≡ code_at (memory self.now) a }
@@ -143,9 +155,10 @@ impl Cells {
     pub fn fetch(&self) -> ArrayVec<u8, 15>
         ensures { result.items ≡ code_run (memory self.now) self.now.eip }
     {
+        let at = u64::from(self.eip());
         let mut bytes = ArrayVec::new();
         for i in 0..15 {
-            match self.code_at(u64::from(self.eip) + i) {
+            match self.code_at(at + i) {
                 Some(b) => bytes.push(b),
                 None => return bytes,
             }

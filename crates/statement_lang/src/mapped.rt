@@ -1,8 +1,8 @@
-ghost use Rattle.std.specs.Prelude.{◌≡◌, ◌<◌, IfSome, IfNone, true, false, if◌then◌else◌, is_ok, is_some, length, map, ◌++◌, ◌∷◌, []};
+ghost use Rattle.std.specs.Prelude.{◌≡◌, ◌<◌, IfSome, IfNone, All, true, false, if◌then◌else◌, is_ok, length, map, ◌++◌, ◌∷◌, []};
 ghost use Rattle.std.specs.List.{list_all};
-ghost use Rattle.memory_map.specs.Range.{byte_at, code_at, may_write};
+ghost use Rattle.memory_map.specs.Range.{byte_at, code_at, has, may_write};
 ghost use Rattle.memory_map.specs.Spans.{AreAll};
-ghost use Rattle.statement_lang.specs.Cells.{fill_byte};
+ghost use Rattle.statement_lang.specs.Filling.{fill_byte};
 ghost use Rattle.statement_lang.specs.Indexed.{IsIndexed, IsPlaced, IsRank, is_clear, may_map, range_at};
 ghost use Rattle.x86_semantics.specs.Memory.{put_byte};
 
@@ -60,7 +60,7 @@ fn rank(list: &[Block], order: &[usize], a: u64) -> usize
 fn place(list: &[Block], order: &[usize], a: u64) -> Option<usize>
     requires { IsIndexed list.now order.now }
     ensures some { IfSome result (IsPlaced list.now a) }
-    ensures none { IfNone result (is_some (byte_at list.now a) ≡ false) }
+    ensures none { IfNone result (All (λ r. has a r ≡ false) list.now) }
 {
     let count = rank(list, order, a);
     if count == 0 {
@@ -126,8 +126,9 @@ impl Mapped {
     pub fn put(&mut self, a: u64, b: u8)
         ensures { self.new ≡ map (put_byte a b) self.old }
     {
-        if let Some(p) = place(&self.held, &self.order, a) {
-            self.held[p].put(a, b);
+        match place(&self.held, &self.order, a) {
+            Some(p) => self.held[p].put(a, b),
+            None => {}
         }
     }
 
@@ -135,8 +136,9 @@ impl Mapped {
     pub fn fill(&mut self, a: u64, b: u8)
         ensures { self.new ≡ map (fill_byte a b) self.old }
     {
-        if let Some(p) = place(&self.held, &self.order, a) {
-            self.held[p].fill(a, b);
+        match place(&self.held, &self.order, a) {
+            Some(p) => self.held[p].fill(a, b),
+            None => {}
         }
     }
 

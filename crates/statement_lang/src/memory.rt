@@ -27,16 +27,6 @@ impl Cells {
         }
     }
 
-    /// The word of a width at an address, where it is mapped: none is from 2^32 on.
-    pub fn word_at(&self, w: Width, a: u64) -> Option<u32>
-        ensures { result ≡ word_at w a self.now }
-    {
-        if a > u64::from(u32::MAX) {
-            return None;
-        }
-        self.load(w, a as u32)
-    }
-
     #[tactic(auto, unfolding(x86_semantics::specs::Memory::number_at))]
     fn number_of_one(&self, a: u32) -> Option<u32>
         ensures value { result ≡ number_at (memory self.now) 1 a }

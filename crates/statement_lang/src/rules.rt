@@ -3,7 +3,8 @@ ghost use Rattle.std.specs.Bool.{xor};
 ghost use Rattle.bit_words.specs.Flags.{difference_flags, flags_by, has_sign, logic_flags, sum_flags, unpacked};
 ghost use Rattle.bit_words.specs.Width.{bits_of, cut, is_signed, signed_of};
 ghost use Rattle.x86_semantics.specs.FlagRules.{both_by, freed_by, is_set, of_result, rotate_left_flags, rotate_right_flags, ruled, shift_left_flags, shift_right_flags, status_flags, unless_zero, with_status};
-ghost use Rattle.statement_lang.specs.Cells.{flags_of, status_of};
+ghost use Rattle.statement_lang.specs.Cells.{flags_of};
+ghost use Rattle.statement_lang.specs.Filling.{status_of};
 ghost use Rattle.statement_lang.specs.Run.{set_to};
 
 use bit_words::{Flags, Width, flags_of_add, flags_of_logic, flags_of_sub};

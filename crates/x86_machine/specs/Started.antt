@@ -5,14 +5,13 @@ use Rattle.std.specs.Option.{option_map}
 use Rattle.memory_map.specs.declared.choice.Fill.{Fill as Filling}
 use Rattle.memory_map.specs.declared.registers.Regs.{Regs}
 use Rattle.memory_map.specs.declared.span.Span.{Span}
-use Rattle.memory_map.specs.Image.{EXIT_PLACE, Image, has_exit_word}
+use Rattle.memory_map.specs.Image.{Image, has_exit_word}
 use Rattle.memory_map.specs.Map.{all_apart, is_in_user_space}
 use Rattle.memory_map.specs.Range.{Range, has}
 use Rattle.memory_map.specs.Spans.{is_in_ranges, is_in_span}
 use Rattle.memory_map.specs.Start.{BASE_REACH, STACK_ABOVE, STACK_BELOW}
 use Rattle.memory_map.specs.State.{MachineState, memory}
-use Rattle.x86_semantics.specs.Memory.{with_number}
-use Rattle.statement_lang.specs.Cells.{status_of, with_filled}
+use Rattle.statement_lang.specs.Filling.{status_of, with_filled}
 use Rattle.import_semantics.specs.StubDoes.{bytes_of_fills}
 use Rattle.x86_machine.specs.declared.start_fault.StartFault.{StartFault}
 use Rattle.x86_machine.specs.declared.start_fault.StartFault.TheVariants.{Align, Fill, Overlap, Window}
@@ -38,9 +37,12 @@ stack_pointer s = (stated_registers s.regs).esp
 
 -- ---- memory before anything is filled in
 
+unfoldable pub zeros : ℕ → List ℕ
+zeros n = replicate n 0
+
 -- a window of zeros round a base, which may be read and written
 abbrev pub zero_window : ℕ → ℕ → ℕ → Range
-zero_window below above base = record { low = base - below; bytes = replicate (below + above) 0; write = true; execute = false }
+zero_window below above base = record { low = base - below; bytes = zeros (below + above); write = true; execute = false }
 
 abbrev pub stack_window : StartFile → Range
 stack_window s = zero_window STACK_BELOW STACK_ABOVE (stack_pointer s)
@@ -69,17 +71,20 @@ bare_state image s = record {
 abbrev pub unset_zeros : List Span → List (ℕ × ℕ)
 unset_zeros unset = flat_map (λ s. map (λ a. (a, 0)) (range_with_len s.low s.size)) unset
 
--- bytes filled in at their addresses, one after another: also where they may not be written
+-- the exit place as the word at an address, its lowest byte first, where it is asked for
+abbrev pub exit_word : Bool → ℕ → List (ℕ × ℕ)
+exit_word asked a = if asked then (a, 0) ∷ (a + 1, 0) ∷ (a + 2, 0) ∷ (a + 3, 0xF0) ∷ [] else []
+
+-- the bytes that are filled in, each with its address: unset ones are 0, what the start file fills in follows, and the format may ask for the exit place at the stack pointer
+abbrev pub start_bytes : Image → StartFile → List (ℕ × ℕ)
+start_bytes image s = unset_zeros image.unset ++ (bytes_of_fills s.fill ++ exit_word (has_exit_word image) (stack_pointer s))
+
+-- bytes filled in one after another, so that of two at one address the later one counts: also where they may not be written
 abbrev pub with_fills : List (ℕ × ℕ) → MachineState → MachineState
 with_fills bytes m = fold (λ n at. with_filled at.0 at.1 n) m bytes
 
--- with the exit place as the word at the stack pointer, where the format asks for it
-abbrev pub with_exit_word : Bool → MachineState → MachineState
-with_exit_word asked m = if asked then with_number 4 m.registers.esp EXIT_PLACE m else m
-
--- the later of two fills that hold one byte counts
 unfoldable pub start_state : Image → StartFile → MachineState
-start_state image s = with_exit_word (has_exit_word image) (with_fills (bytes_of_fills s.fill) (with_fills (unset_zeros image.unset) (bare_state image s)))
+start_state image s = with_fills (start_bytes image s) (bare_state image s)
 
 -- ---- faults, in their order
 

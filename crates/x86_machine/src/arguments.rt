@@ -29,10 +29,10 @@ fn argument(cells: &Cells, i: u8) -> u32
     stack_word(cells, 4 + 4 * u32::from(i))
 }
 
-fn amount(cells: &Cells, amount: Amount) -> u32
-    ensures { result ≡ amount amount cells.now }
+fn amount(cells: &Cells, counted: Amount) -> u32
+    ensures { result ≡ amount counted cells.now }
 {
-    match amount {
+    match counted {
         Amount::Fixed(n) => n,
         Amount::Argument(i) => argument(cells, i),
     }

@@ -18,13 +18,7 @@ fn result_of(reply: Reply, choice: &Choice) -> u32
 {
     match reply {
         Reply::Number(n) => n,
-        Reply::Block { .. } => {
-            if choice.fails {
-                0
-            } else {
-                choice.base
-            }
-        }
+        Reply::Block { .. } => { if choice.fails { 0 } else { choice.base } }
         _ => choice.eax,
     }
 }
@@ -63,6 +57,7 @@ fn zeros(alloc: Global, span: Span) -> Result<Block, AllocError>
 }
 
 // Maps the block of a call, where there is one; after a refusal nothing has changed.
+#[tactic(auto, using(crate::proofs::Apart::block_zeros))]
 fn map_block(cells: &mut Cells, alloc: Global, block: Option<Span>) -> Result<(), AllocError>
     requires some { IfSome block (λ s. 0 < s.size) }
     requires allowed { is_allowed cells.old (option_map (λ s. fresh_block s.low s.size) block) ≡ true }
@@ -77,12 +72,8 @@ fn map_block(cells: &mut Cells, alloc: Global, block: Option<Span>) -> Result<()
 fn put_fill(cells: &mut Cells, fill: &Fill)
     ensures { cells.new ≡ with_bytes (enumerate_from fill.now.at fill.now.bytes) cells.old }
 {
-    let mut at = u64::from(fill.at);
-    let mut left = fill.bytes.as_slice();
-    while let Some((first, rest)) = left.split_first() {
-        cells.put(at, *first);
-        at += 1;
-        left = rest;
+    for i in 0..fill.bytes.len() {
+        cells.put(u64::from(fill.at) + i as u64, fill.bytes.as_slice()[i]);
     }
 }
 

@@ -1,18 +1,21 @@
-ghost use Rattle.std.specs.Prelude.{◌≡◌, ◌+◌, ◌<◌, ◌^◌, ◌&&◌, ◌||◌, not, map, option_map, position};
+ghost use Rattle.std.specs.Prelude.{◌≡◌, ◌+◌, ◌<◌, ◌^◌, ◌&&◌, ◌||◌, not, map, position};
 ghost use Rattle.std.specs.List.{enumerate_from, list_all, list_any, range_with_len};
 ghost use Rattle.memory_map.specs.Image.{has_exit_word, is_pe};
 ghost use Rattle.memory_map.specs.Range.{has};
 ghost use Rattle.memory_map.specs.Spans.{is_in_span};
 ghost use Rattle.import_semantics.specs.StubDoes.{bytes_of_fills};
-ghost use Rattle.x86_machine.specs.Started.{exit_word_span, is_free_byte, is_free_fill, unset_zeros, windows, with_exit_word, with_fills};
+ghost use Rattle.x86_machine.specs.Started.{exit_word, exit_word_span, is_free_byte, is_free_fill, unset_zeros, windows, with_fills};
 
 use crate::StartFile;
 use crate::window::{base_window, stack_window};
 use image_loader::Image;
-use memory_map::{Fill, Format, Span, USER_END};
+use memory_map::{Fill, Format, Span};
 use statement_lang::Cells;
 
 const WORD_BYTES: u32 = 4;
+
+// The highest byte of the exit place, whose others are 0.
+const EXIT_TOP: u8 = 0xF0;
 
 fn has_exit_word(format: Format) -> bool
     ensures { result ≡ is_pe format }
@@ -47,32 +50,23 @@ fn is_free_byte(image: &Image, start: &StartFile, a: u64) -> bool
 fn is_free_fill(image: &Image, start: &StartFile, fill: &Fill) -> bool
     ensures { result ≡ is_free_fill image.now start.now fill.now }
 {
-    let mut at = u64::from(fill.at);
-    let mut left = fill.bytes.as_slice();
-    while let Some((_, rest)) = left.split_first() {
-        if !is_free_byte(image, start, at) {
+    for i in 0..fill.bytes.len() {
+        if !is_free_byte(image, start, u64::from(fill.at) + i as u64) {
             return false;
         }
-        at += 1;
-        left = rest;
     }
     true
 }
 
 /// The index of the first fill with a byte that is not free.
-pub fn first_bad_fill(image: &Image, start: &StartFile) -> Option<u64>
+pub fn first_bad_fill(image: &Image, start: &StartFile) -> Option<usize>
     ensures { result ≡ position (λ f. not (is_free_fill image.now start.now f)) start.now.fill }
 {
-    let mut index = 0u64;
-    let mut left = start.fill.as_slice();
-    while let Some((first, rest)) = left.split_first() {
-        if !is_free_fill(image, start, first) {
-            return Some(index);
-        }
-        index += 1;
-        left = rest;
-    }
-    None
+    start
+        .fill
+        .as_slice()
+        .iter()
+        .position(|fill| !is_free_fill(image, start, fill))
 }
 
 // Fills a byte with 0 at each address of a span.
@@ -97,12 +91,8 @@ pub fn zero_unset(cells: &mut Cells, unset: &[Span])
 fn fill_one(cells: &mut Cells, fill: &Fill)
     ensures { cells.new ≡ with_fills (enumerate_from fill.now.at fill.now.bytes) cells.old }
 {
-    let mut at = u64::from(fill.at);
-    let mut left = fill.bytes.as_slice();
-    while let Some((first, rest)) = left.split_first() {
-        cells.fill(at, *first);
-        at += 1;
-        left = rest;
+    for i in 0..fill.bytes.len() {
+        cells.fill(u64::from(fill.at) + i as u64, fill.bytes.as_slice()[i]);
     }
 }
 
@@ -115,12 +105,15 @@ pub fn fill_all(cells: &mut Cells, fills: &[Fill])
     }
 }
 
-/// Puts the exit place at the stack pointer, where the format asks for it.
-pub fn put_exit_word(cells: &mut Cells, format: Format)
-    ensures { cells.new ≡ with_exit_word (is_pe format) cells.old }
+/// Fills in the exit place at the stack pointer, where the format asks for it.
+pub fn fill_exit_word(cells: &mut Cells, format: Format)
+    ensures { cells.new ≡ with_fills (exit_word (is_pe format) cells.old.registers.esp) cells.old }
 {
     if has_exit_word(format) {
-        let at = cells.registers().esp;
-        cells.put_number(WORD_BYTES, at, USER_END);
+        let at = u64::from(cells.registers().esp);
+        cells.fill(at, 0);
+        cells.fill(at + 1, 0);
+        cells.fill(at + 2, 0);
+        cells.fill(at + 3, EXIT_TOP);
     }
 }

@@ -16,8 +16,11 @@ mod start_file;
 mod starting;
 mod window;
 
-pub use laws::{imports_have_next_states, instructions_have_next_states};
+pub use laws::{imports_have_next_states, instructions_have_next_states, start_files_state_start};
 pub use machine::Machine;
 pub use outcome::Outcome;
 pub use start_fault::StartFault;
 pub use start_file::StartFile;
+
+#[cfg(test)]
+mod tests;

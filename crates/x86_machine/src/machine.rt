@@ -55,6 +55,13 @@ impl Machine {
         self.cells.fetch()
     }
 
+    /// The state of the machine.
+    pub fn cells(&self) -> &Cells
+        ensures { result.now ≡ self.now }
+    {
+        &self.cells
+    }
+
     /// Makes one step under a choice. Memory is taken for a block that an import hands out alone. On every outcome but
     /// `Stepped` the machine is as it was.
     pub fn step(&mut self, image: &Image, stubs: &Stubs, choice: &Choice) -> Outcome
@@ -78,10 +85,10 @@ fn import(cells: &mut Cells, alloc: Global, stub: Option<&Stub>, choice: &Choice
     let Some(stub) = stub else {
         return Outcome::NoStub;
     };
-    if stub.reply == Reply::Never {
-        return Outcome::Exited;
+    match stub.reply {
+        Reply::Never => Outcome::Exited,
+        _ => call(cells, alloc, stub, choice),
     }
-    call(cells, alloc, stub, choice)
 }
 
 // The step of the instruction at EIP.
@@ -95,6 +102,7 @@ fn instruction(cells: &mut Cells, choice: &Choice) -> Outcome
             Ran::Faulted(kind) => Outcome::Faulted(kind),
         },
         Err(DecodeFault::Truncated) => Outcome::Faulted(FaultKind::Fetch),
-        Err(_) => Outcome::NotListed,
+        Err(DecodeFault::NotListed { .. }) => Outcome::NotListed,
+        Err(DecodeFault::TooLong) => Outcome::NotListed,
     }
 }

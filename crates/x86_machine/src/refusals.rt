@@ -82,6 +82,7 @@ fn is_zeroed(reply: Reply) -> bool
 }
 
 // Whether a block may lie at these addresses.
+#[tactic(auto, using(crate::proofs::Apart::block_zeros))]
 fn may_lie(cells: &Cells, span: Span) -> bool
     requires { 0 < span.size }
     ensures { result ≡ may_lie cells.now (fresh_block span.low span.size) }
@@ -132,6 +133,7 @@ fn is_freed(cells: &Cells, stub: &Stub, a: u64) -> bool
 }
 
 // Whether a block may have a byte at an address.
+#[tactic(auto, using(crate::proofs::Apart::block_zeros))]
 fn may_hold(zeroed: bool, block: Option<Span>, a: u64, b: u8) -> bool
     ensures { result ≡ may_hold zeroed (option_map (λ s. fresh_block s.low s.size) block) (a, b) }
 {
@@ -156,14 +158,11 @@ fn may_fill(cells: &Cells, stub: &Stub, choice: &Choice, a: u64, b: u8) -> bool
 fn may_fill_each(cells: &Cells, stub: &Stub, choice: &Choice, fill: &Fill) -> bool
     ensures { result ≡ list_all (may_fill stub.now choice.now cells.now) (enumerate_from fill.now.at fill.now.bytes) }
 {
-    let mut at = u64::from(fill.at);
-    let mut left = fill.bytes.as_slice();
-    while let Some((first, rest)) = left.split_first() {
-        if !may_fill(cells, stub, choice, at, *first) {
+    for i in 0..fill.bytes.len() {
+        let at = u64::from(fill.at) + i as u64;
+        if !may_fill(cells, stub, choice, at, fill.bytes.as_slice()[i]) {
             return false;
         }
-        at += 1;
-        left = rest;
     }
     true
 }

@@ -7,7 +7,7 @@ ghost use Rattle.memory_map.specs.State.{memory};
 ghost use Rattle.statement_lang.specs.Indexed.{is_clear};
 ghost use Rattle.x86_machine.specs.Started.{bare_state, started, stated_registers, windows};
 
-use crate::filling::{fill_all, first_bad_fill, put_exit_word, zero_unset};
+use crate::filling::{fill_all, fill_exit_word, first_bad_fill, zero_unset};
 use crate::window::{base_window, stack_window};
 use crate::{StartFault, StartFile};
 use image_loader::Image;
@@ -70,12 +70,12 @@ fn with_segments(alloc: Global, cells: Cells, segments: &[Segment]) -> Result<Ce
     requires apart { all_apart (memory cells) ≡ true }
     ensures { MatchResult result (λ m. (m ≡ record cells { ranges = cells.ranges ++ map range_of segments.now }) × (all_apart (memory m) ≡ true)) (λ fault. (fault ≡ StartFault.Memory) ⊎ ((fault ≡ StartFault.Overlap) × (all_apart (memory cells ++ map range_of segments.now) ≡ false))) }
 {
-    let mut with = cells;
+    let mut mapped = cells;
     for segment in segments {
         let block = copy_of(alloc, segment)?;
-        with = with_range(with, block)?;
+        mapped = with_range(mapped, block)?;
     }
-    Ok(with)
+    Ok(mapped)
 }
 
 // The segments and the windows, nothing filled in.
@@ -112,10 +112,12 @@ pub fn start_cells(alloc: Global, image: &Image, start: &StartFile) -> Result<Ce
     }
     let mut cells = bare_cells(alloc, image, start)?;
     if let Some(index) = first_bad_fill(image, start) {
-        return Err(StartFault::Fill { index });
+        return Err(StartFault::Fill {
+            index: index as u64,
+        });
     }
     zero_unset(&mut cells, image.unset().as_slice());
     fill_all(&mut cells, start.fill.as_slice());
-    put_exit_word(&mut cells, image.format());
+    fill_exit_word(&mut cells, image.format());
     Ok(cells)
 }

@@ -10,6 +10,7 @@ use std::alloc::{AllocError, Global};
 
 // The stack window reaches this far below the stack pointer, and this far above it.
 const STACK_BELOW: u32 = 1_048_576;
+
 const STACK_ABOVE: u32 = 4096;
 
 // The windows of fs and gs reach this far to either side of their bases.
@@ -52,6 +53,7 @@ impl Window {
         self.base.saturating_sub(self.below)
     }
 
+    #[tactic(auto, using(crate::proofs::Apart::zeros_size))]
     fn end(self) -> u64
         ensures { result ≡ end_of (zero_window self.below self.above self.base) }
     {
@@ -59,6 +61,7 @@ impl Window {
     }
 
     /// Whether an address is in it.
+    #[tactic(auto, using(crate::proofs::Apart::zeros_size))]
     pub fn has(self, a: u64) -> bool
         ensures { result ≡ has a (zero_window self.below self.above self.base) }
     {
@@ -66,6 +69,7 @@ impl Window {
     }
 
     /// Whether it lies where a program's memory may.
+    #[tactic(auto, using(crate::proofs::Apart::zeros_size))]
     pub fn is_in_user_space(self) -> bool
         ensures { result ≡ is_in_user_space (zero_window self.below self.above self.base) }
     {
@@ -73,6 +77,7 @@ impl Window {
     }
 
     /// The window as a range of zeros.
+    #[tactic(auto, unfolding(crate::specs::Started::zeros))]
     pub fn zeros(self, alloc: Global) -> Result<Block, AllocError>
         ensures { IfOk result (λ r. r ≡ zero_window self.below self.above self.base) }
     {
