@@ -24,13 +24,13 @@ use Rattle.run_replayer.proofs.Splitting.{ArePlain, IsPlain, one, none}
 -- ---- plain texts
 
 -- a known text is plain where each of its bytes is tested to be
+plain_test : (c : ℕ) (cs : List ℕ) (t rest : Bool) → nat_lt 32 c ≡ t → (rest ≡ true → IsPlain cs) → (t && rest) ≡ true → IsPlain (c ∷ cs)
+plain_test c cs true rest f go k = All-cons (λ b. 32 < b) c cs (grind (arith, nat_tests)) (go k)
+plain_test c cs false rest f go k = cc
+
 pub plain_by : (cs : List ℕ) → list_all (λ b. nat_lt 32 b) cs ≡ true → IsPlain cs
 plain_by [] e = All-nil (λ b. 32 < b)
-plain_by (c ∷ cs) e = by (nat_lt 32 c) refl e
-  where
-    by : (t : Bool) → nat_lt 32 c ≡ t → (t && list_all (λ b. nat_lt 32 b) cs) ≡ true → IsPlain (c ∷ cs)
-    by true f k = All-cons (λ b. 32 < b) c cs (grind (arith, nat_tests)) (plain_by cs k)
-    by false f k = cc
+plain_by (c ∷ cs) e = plain_test c cs (nat_lt 32 c) (list_all (λ b. nat_lt 32 b) cs) refl (λ k. plain_by cs k) e
 
 digit_plain : (d : ℕ) → d < 16 → 32 < hex_digit d
 unfolding hex_digit
@@ -61,7 +61,8 @@ bits_plain b more plain = All-cons (λ b. 32 < b) (48 + b) more (omega arith) pl
 
 pub flags_plain : (flags : ℕ) → IsPlain (flag_digits flags)
 unfolding flag_digits
-flags_plain n = bits_plain (n % 2) _ (bits_plain (n / 2 % 2) _ (bits_plain (n / 4 % 2) _ (bits_plain (n / 8 % 2) _ (bits_plain (n / 16 % 2) _ (bits_plain (n / 32 % 2) [] (All-nil (λ b. 32 < b)))))))
+flags_plain n =
+    bits_plain (n % 2) ((48 + n / 2 % 2) ∷ (48 + n / 4 % 2) ∷ (48 + n / 8 % 2) ∷ (48 + n / 16 % 2) ∷ (48 + n / 32 % 2) ∷ []) (bits_plain (n / 2 % 2) ((48 + n / 4 % 2) ∷ (48 + n / 8 % 2) ∷ (48 + n / 16 % 2) ∷ (48 + n / 32 % 2) ∷ []) (bits_plain (n / 4 % 2) ((48 + n / 8 % 2) ∷ (48 + n / 16 % 2) ∷ (48 + n / 32 % 2) ∷ []) (bits_plain (n / 8 % 2) ((48 + n / 16 % 2) ∷ (48 + n / 32 % 2) ∷ []) (bits_plain (n / 16 % 2) ((48 + n / 32 % 2) ∷ []) (bits_plain (n / 32 % 2) [] (All-nil (λ b. 32 < b)))))))
 
 above_all : (c : ℕ) (cs : List ℕ) → 32 < c → IsPlain cs → IsPlain (c ∷ cs)
 above_all c cs h plain = All-cons (λ b. 32 < b) c cs h plain
@@ -131,13 +132,14 @@ pub flags_read : (n : ℕ) → n < 64 → flags_of (flag_digits n) ≡ Some n
 unfolding flag_digits
 flags_read n small =
     let e0 : bits_of [] ≡ Some 0 = refl in
-    let e1 = bits_more (n / 32 % 2) 0 _ (omega arith) e0 in
-    let e2 = bits_more (n / 16 % 2) _ _ (omega arith) e1 in
-    let e3 = bits_more (n / 8 % 2) _ _ (omega arith) e2 in
-    let e4 = bits_more (n / 4 % 2) _ _ (omega arith) e3 in
-    let e5 = bits_more (n / 2 % 2) _ _ (omega arith) e4 in
-    let e6 = bits_more (n % 2) _ _ (omega arith) e5 in
-    e6 ∙ ap Some (let same : n % 2 + 2 * (n / 2 % 2 + 2 * (n / 4 % 2 + 2 * (n / 8 % 2 + 2 * (n / 16 % 2 + 2 * (n / 32 % 2 + 2 * 0))))) ≡ n = omega arith in same)
+    let e1 : bits_of ((48 + n / 32 % 2) ∷ []) ≡ Some (n / 32 % 2 + 2 * 0) = bits_more (n / 32 % 2) 0 [] (omega arith) e0 in
+    let e2 : bits_of ((48 + n / 16 % 2) ∷ (48 + n / 32 % 2) ∷ []) ≡ Some (n / 16 % 2 + 2 * (n / 32 % 2 + 2 * 0)) = bits_more (n / 16 % 2) (n / 32 % 2 + 2 * 0) ((48 + n / 32 % 2) ∷ []) (omega arith) e1 in
+    let e3 : bits_of ((48 + n / 8 % 2) ∷ (48 + n / 16 % 2) ∷ (48 + n / 32 % 2) ∷ []) ≡ Some (n / 8 % 2 + 2 * (n / 16 % 2 + 2 * (n / 32 % 2 + 2 * 0))) = bits_more (n / 8 % 2) (n / 16 % 2 + 2 * (n / 32 % 2 + 2 * 0)) ((48 + n / 16 % 2) ∷ (48 + n / 32 % 2) ∷ []) (omega arith) e2 in
+    let e4 : bits_of ((48 + n / 4 % 2) ∷ (48 + n / 8 % 2) ∷ (48 + n / 16 % 2) ∷ (48 + n / 32 % 2) ∷ []) ≡ Some (n / 4 % 2 + 2 * (n / 8 % 2 + 2 * (n / 16 % 2 + 2 * (n / 32 % 2 + 2 * 0)))) = bits_more (n / 4 % 2) (n / 8 % 2 + 2 * (n / 16 % 2 + 2 * (n / 32 % 2 + 2 * 0))) ((48 + n / 8 % 2) ∷ (48 + n / 16 % 2) ∷ (48 + n / 32 % 2) ∷ []) (omega arith) e3 in
+    let e5 : bits_of ((48 + n / 2 % 2) ∷ (48 + n / 4 % 2) ∷ (48 + n / 8 % 2) ∷ (48 + n / 16 % 2) ∷ (48 + n / 32 % 2) ∷ []) ≡ Some (n / 2 % 2 + 2 * (n / 4 % 2 + 2 * (n / 8 % 2 + 2 * (n / 16 % 2 + 2 * (n / 32 % 2 + 2 * 0))))) = bits_more (n / 2 % 2) (n / 4 % 2 + 2 * (n / 8 % 2 + 2 * (n / 16 % 2 + 2 * (n / 32 % 2 + 2 * 0)))) ((48 + n / 4 % 2) ∷ (48 + n / 8 % 2) ∷ (48 + n / 16 % 2) ∷ (48 + n / 32 % 2) ∷ []) (omega arith) e4 in
+    let e6 : bits_of ((48 + n % 2) ∷ (48 + n / 2 % 2) ∷ (48 + n / 4 % 2) ∷ (48 + n / 8 % 2) ∷ (48 + n / 16 % 2) ∷ (48 + n / 32 % 2) ∷ []) ≡ Some (n % 2 + 2 * (n / 2 % 2 + 2 * (n / 4 % 2 + 2 * (n / 8 % 2 + 2 * (n / 16 % 2 + 2 * (n / 32 % 2 + 2 * 0)))))) = bits_more (n % 2) (n / 2 % 2 + 2 * (n / 4 % 2 + 2 * (n / 8 % 2 + 2 * (n / 16 % 2 + 2 * (n / 32 % 2 + 2 * 0))))) ((48 + n / 2 % 2) ∷ (48 + n / 4 % 2) ∷ (48 + n / 8 % 2) ∷ (48 + n / 16 % 2) ∷ (48 + n / 32 % 2) ∷ []) (omega arith) e5 in
+    let same : (n % 2 + 2 * (n / 2 % 2 + 2 * (n / 4 % 2 + 2 * (n / 8 % 2 + 2 * (n / 16 % 2 + 2 * (n / 32 % 2 + 2 * 0)))))) ≡ n = omega arith in
+    e6 ∙ ap Some same
 
 pub six_flags_read : (n : ℕ) → n < 64 → six_flags_of (flag_digits n ∷ []) ≡ Some n
 unfolding six_flags_of

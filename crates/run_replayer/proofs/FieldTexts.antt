@@ -72,10 +72,10 @@ pub byte_read : (n : ℕ) → n < 2 ^ 8 → byte_of (hex2 n) ≡ Some n
 unfolding hex2
 byte_read n small = number_read 2 n (omega arith)
 
-truth_by : (field : List ℕ) (one zero : Bool) (b : Bool) → bytes_eq field (codes "1") ≡ one → bytes_eq field (codes "0") ≡ zero
-    → ◌≡◌ {A = Option Bool} (if one then Some true else if zero then Some false else None) (Some b) → field ≡ truth_digit b
-truth_by field true zero true e f h = (bytes_eq-Decides field (codes "1")).0 e
-truth_by field true zero false e f h = cc
+truth_by : (field : List ℕ) (ones noughts : Bool) (b : Bool) → bytes_eq field (codes "1") ≡ ones → bytes_eq field (codes "0") ≡ noughts
+    → ◌≡◌ {A = Option Bool} (if ones then Some true else if noughts then Some false else None) (Some b) → field ≡ truth_digit b
+truth_by field true noughts true e f h = (bytes_eq-Decides field (codes "1")).0 e
+truth_by field true noughts false e f h = cc
 truth_by field false true false e f h = (bytes_eq-Decides field (codes "0")).0 f
 truth_by field false true true e f h = cc
 truth_by field false false b e f h = cc

@@ -1,10 +1,11 @@
 -- The lines with which start files and records begin, when they are read, are the texts of what they state.
-use Rattle.std.proofs.Common.{◌≡◌, ℕ, Bool, true, false, List, [], ◌∷◌, ◌++◌, Option, Some, None, Ok, Err, refl, sym, ◌∙◌, ap, subst, append_assoc}
+use Rattle.std.proofs.Common.{◌≡◌, ℕ, Bool, true, false, List, [], ◌∷◌, ◌++◌, Option, Some, None, Ok, Err, refl, sym, ◌∙◌, ap, subst, append_assoc, append-nil}
 use Rattle.std.specs.Prelude.{Result, codes, flat_map, option_map, if◌then◌else◌}
 use Rattle.std.specs.Option.{ok_or}
 use Rattle.std.specs.Str.{bytes_eq}
 use Rattle.std.proofs.lemmas.Slice.Eq.{bytes_eq-Decides}
 use Rattle.text_fields.specs.Line.{newline}
+use Rattle.memory_map.specs.declared.choice.Fill.{Fill}
 use Rattle.text_fields.specs.Lines.{fields}
 use Rattle.run_replayer.specs.declared.head.Due.{Due}
 use Rattle.run_replayer.specs.declared.head.Due.TheVariants as due
@@ -22,7 +23,7 @@ pub record Behind {A : Type 0} (word line : List ℕ) (go : List (List ℕ) → 
   pub is : line ≡ word ++ spaced fs
   pub made : go fs ≡ Some a
 
-field_made : {A : Type 0} (o : Option A) (a : A) → or_field o ≡ Ok a → o ≡ Some a
+pub field_made : {A : Type 0} (o : Option A) (a : A) → or_field o ≡ Ok a → o ≡ Some a
 field_made None a h = cc
 field_made (Some b) a h = cc
 
@@ -47,7 +48,7 @@ mapped f None b h = cc
 mapped f (Some a) b h = (a, refl, cc)
 
 -- what was stated before the line that is due
-pub told_due : List ℕ → Due → Head → List ℕ
+unfoldable pub told_due : List ℕ → Due → Head → List ℕ
 told_due header due.Header h = []
 told_due header due.Regs h = header ++ newline
 told_due header due.Flags h = header ++ newline ++ regs_line h.regs
@@ -100,3 +101,37 @@ due_told header due.Bases h k line is =
       fill = ap (λ (l : Head). l.fill) (sym m.2);
     }
 due_told header due.Rest h k line is = cc
+
+-- fills are told apart
+pub told_due-fill : (header : List ℕ) (d : Due) (h : Head) (fills : List Fill) → told_due header d (record h { fill = fills }) ≡ told_due header d h
+unfolding told_due
+told_due-fill header due.Header h fills = refl
+told_due-fill header due.Regs h fills = refl
+told_due-fill header due.Flags h fills = refl
+told_due-fill header due.Bases h fills = refl
+told_due-fill header due.Rest h fills = refl
+
+pub told_due-rest : (header : List ℕ) (d : Due) (h : Head) → is_rest d ≡ true → told_due header d h ≡ told_due header due.Rest h
+unfolding told_due
+told_due-rest header due.Header h e = cc
+told_due-rest header due.Regs h e = cc
+told_due-rest header due.Flags h e = cc
+told_due-rest header due.Bases h e = cc
+told_due-rest header due.Rest h e = refl
+
+-- four parts, each as another
+pub four : (a b c d x y z w : List ℕ) → a ≡ x → b ≡ y → c ≡ z → d ≡ w → a ++ b ++ c ++ d ≡ x ++ y ++ z ++ w
+four a b c d x y z w e f g h = cc
+
+-- where nothing stands behind a part, that part or a later one gains what is put behind all
+pub first_gains : (a more : List ℕ) → (a ++ more) ++ [] ++ [] ++ [] ≡ (a ++ [] ++ [] ++ []) ++ more
+first_gains a more = simp (append_assoc, append-nil)
+
+pub second_gains : (a b more : List ℕ) → a ++ (b ++ more) ++ [] ++ [] ≡ (a ++ b ++ [] ++ []) ++ more
+second_gains a b more = simp (append_assoc, append-nil)
+
+pub third_gains : (a b c more : List ℕ) → a ++ b ++ (c ++ more) ++ [] ≡ (a ++ b ++ c ++ []) ++ more
+third_gains a b c more = simp (append_assoc, append-nil)
+
+pub fourth_gains : (a b c more : List ℕ) → a ++ b ++ c ++ more ≡ (a ++ b ++ c ++ []) ++ more
+fourth_gains a b c more = simp (append_assoc, append-nil)

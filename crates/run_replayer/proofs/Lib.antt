@@ -10,4 +10,5 @@ pub mod HeadTold
 pub mod StartTold
 pub mod RecordTold
 pub mod FieldReads
+pub mod FillFacts
 pub mod RecordRead

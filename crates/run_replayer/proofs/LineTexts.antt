@@ -20,9 +20,12 @@ use Rattle.run_replayer.proofs.Splitting.{spaced}
 pub behind_field : (fs others more : List (List ℕ)) (field known : List ℕ) → fs ≡ field ∷ others → field ≡ known → others ≡ more → fs ≡ known ∷ more
 behind_field fs others more field known e f g = cc
 
+two_joined : (word gap a b end : List ℕ) → (word ++ ((gap ++ a) ++ ((gap ++ b) ++ []))) ++ end ≡ (((word ++ (gap ++ a)) ++ gap) ++ b) ++ end
+two_joined word gap a b end = simp (append_assoc, append-nil)
+
 pub fill_explicit : (at : ℕ) (bytes : List ℕ) → (codes "fill" ++ spaced (hex8 at ∷ hex_text bytes ∷ [])) ++ newline ≡ fill_line (record { at = at; bytes = bytes })
 unfolding fill_line
-fill_explicit at bytes = simp (append_assoc, append-nil)
+fill_explicit at bytes = two_joined (codes "fill") space (hex8 at) (hex_text bytes) newline
 
 pub fill_told : (fs : List (List ℕ)) (f : Fill) → fill_of fs ≡ Some f → (codes "fill" ++ spaced fs) ++ newline ≡ fill_line f
 unfolding fill_of
@@ -79,8 +82,11 @@ flags_told fs flags e =
     let all : fs ≡ flag_digits a.value ∷ [] = behind_field fs a.others [] a.field (flag_digits a.value) a.begins (flags_is a.field a.value a.gives) d.none in
     ap (λ l. (codes "flags" ++ spaced l) ++ newline) all ∙ flags_explicit a.value ∙ ap flags_line d.same
 
+pair_joined : (word a b end : List ℕ) → (word ++ (a ++ (b ++ []))) ++ end ≡ ((word ++ a) ++ b) ++ end
+pair_joined word a b end = simp (append_assoc, append-nil)
+
 pub bases_explicit : (f g : ℕ) → (codes "bases" ++ spaced (words_of (f ∷ g ∷ []) [])) ++ newline ≡ bases_line f g
-bases_explicit f g = simp (append_assoc, append-nil)
+bases_explicit f g = pair_joined (codes "bases") (word_field f) (word_field g) newline
 
 pub bases_told : (fs : List (List ℕ)) (bases : ℕ × ℕ) → bases_of fs ≡ Some bases → (codes "bases" ++ spaced fs) ++ newline ≡ bases_line bases.0 bases.1
 unfolding bases_of
@@ -96,11 +102,15 @@ pub record IsChosen (fs : List (List ℕ)) (c : Choice) : Type 0 where
   pub text : spaced fs ≡ choice_fields c
   pub no_fill : c.fill ≡ []
 
+six_joined : (f a b c d gap t : List ℕ) → f ++ (a ++ (b ++ (c ++ (d ++ ((gap ++ t) ++ []))))) ≡ ((f ++ (a ++ (b ++ (c ++ (d ++ []))))) ++ gap) ++ t
+six_joined f a b c d gap t = simp (append_assoc, append-nil)
+
 pub choice_explicit : (flags eax ecx edx base : ℕ) (fails : Bool)
     → spaced (hex2 flags ∷ words_of (eax ∷ ecx ∷ edx ∷ base ∷ []) (truth_digit fails ∷ []))
     ≡ choice_fields (record { flags = flags; eax = eax; ecx = ecx; edx = edx; base = base; fails = fails; fill = [] })
 unfolding choice_fields
-choice_explicit flags eax ecx edx base fails = simp (append_assoc, append-nil)
+choice_explicit flags eax ecx edx base fails =
+    six_joined (space ++ hex2 flags) (word_field eax) (word_field ecx) (word_field edx) (word_field base) space (truth_digit fails)
 
 pub choice_told : (fs : List (List ℕ)) (c : Choice) → choice_of fs ≡ Some c → IsChosen fs c
 unfolding choice_of
@@ -148,15 +158,19 @@ step_told fs s e =
     }
   where
     explicit : (f t : ℕ) (l : List ℕ) → word_fields (f ∷ t ∷ []) ++ l ≡ word_field f ++ word_field t ++ l
-    explicit f t l = simp (append_assoc, append-nil)
+    explicit f t l = joined (word_field f) (word_field t) l
+      where
+        joined : (a b c : List ℕ) → (a ++ (b ++ [])) ++ c ≡ (a ++ b) ++ c
+        joined a b c = simp (append_assoc, append-nil)
+
+found_by : (field : List ℕ) (w : EndWord) (later : Option EndWord) (end : EndWord) (t : Bool) → bytes_eq (end_word w) field ≡ t → (later ≡ Some end → field ≡ end_word end)
+    → (if t then Some w else later) ≡ Some end → field ≡ end_word end
+found_by field w later end true e go h = sym ((bytes_eq-Decides (end_word w) field).0 e) ∙ (let same : w ≡ end = cc in ap end_word same)
+found_by field w later end false e go h = go h
 
 found_end : (field : List ℕ) (ws : List EndWord) (end : EndWord) → find (λ w. bytes_eq (end_word w) field) ws ≡ Some end → field ≡ end_word end
 found_end field [] end h = cc
-found_end field (w ∷ ws) end h = by (bytes_eq (end_word w) field) refl h
-  where
-    by : (t : Bool) → bytes_eq (end_word w) field ≡ t → (if t then Some w else find (λ v. bytes_eq (end_word v) field) ws) ≡ Some end → field ≡ end_word end
-    by true e k = sym ((bytes_eq-Decides (end_word w) field).0 e) ∙ (let same : w ≡ end = cc in ap end_word same)
-    by false e k = found_end field ws end k
+found_end field (w ∷ ws) end h = found_by field w (find (λ v. bytes_eq (end_word v) field) ws) end (bytes_eq (end_word w) field) refl (λ k. found_end field ws end k) h
 
 pub ending_told : (fs : List (List ℕ)) (end : EndWord) → ending_of fs ≡ Some end → spaced fs ≡ space ++ end_word end
 unfolding ending_of

@@ -21,6 +21,7 @@ use Rattle.run_replayer.specs.Grammar.{StatesRecord, behind_word, head_step, is_
 use Rattle.run_replayer.specs.Laws.{IsChoice, IsStep}
 use Rattle.run_replayer.specs.Texts.{bases_line, choice_fields, end_word, fill_line, flag_digits, flags_line, record_header, record_text, regs_line, start_lines, step_lines, truth_digit, word_field}
 use Rattle.run_replayer.proofs.FieldReads.{bare, bases_read, byte_plain, bytes_plain, choice_fields_of, end_plain, end_read, fill_read, flags_plain, plain_by, regs_read, six_flags_read, step_read, truth_plain, word_plain, words_plain}
+use Rattle.run_replayer.proofs.FillFacts.{filled_step}
 use Rattle.run_replayer.proofs.LineTexts.{bases_explicit, choice_explicit, fill_explicit, flags_explicit, regs_explicit, words_of, words_spaced}
 use Rattle.run_replayer.proofs.Splitting.{ArePlain, IsPlain, Reaches, fields_spaced, none, one, plain_line, reaches_both, reaches_end, reaches_line, reaches_none, spaced, spaced_line}
 
@@ -131,15 +132,6 @@ head_fills regs flags f g done (x ∷ xs) all =
     (fill_reached (at due.Rest regs flags f g done [] None) x refl refl (all 0 x (omega arith)))
     (head_fills regs flags f g (done ++ x ∷ []) xs (λ k d below. all (suc k) d (omega arith))))
 
-with_last-append : {X : Type 0} (change : X → X) (xs : List X) (x : X) → with_last change (xs ++ x ∷ []) ≡ xs ++ change x ∷ []
-with_last-append change [] x = refl
-with_last-append change (y ∷ []) x = refl
-with_last-append change (y ∷ z ∷ xs) x = ap (λ l. y ∷ l) (with_last-append change (z ∷ xs) x)
-
-filled_last : (s : RecordReader) (f : Fill) (steps : List RunStep) (x : RunStep) → with_record_fill f (steps ++ x ∷ []) s ≡ record s { steps = steps ++ with_step_fill f x ∷ [] }
-filled_last s f [] x = refl
-filled_last s f (y ∷ steps) x = ap (λ (ss : List RunStep). record s { steps = ss }) (with_last-append (with_step_fill f) (y ∷ steps) x)
-
 -- a step with these fills
 abbrev holding : RunStep → List Fill → RunStep
 holding s fills = record s { choice = record s.choice { fill = fills } }
@@ -154,7 +146,7 @@ step_fills regs flags f g head steps s done (x ∷ xs) all =
     let next : RecordReader = at due.Rest regs flags f g head (steps ++ holding s (done ++ x ∷ []) ∷ []) None in
     let first : Reaches record_grammar here (fill_line x) next =
     (let Q : RecordReader → Type 0 = λ t. Reaches record_grammar here (fill_line x) t in
-    subst Q (filled_last here x steps (holding s done)) (fill_reached here x refl refl (all 0 x (omega arith)))) in
+    subst Q (filled_step here x steps (holding s done)) (fill_reached here x refl refl (all 0 x (omega arith)))) in
     let P : List Fill → Type 0 = λ fs. Reaches record_grammar here (fill_line x ++ flat_map fill_line xs) (at due.Rest regs flags f g head (steps ++ holding s fs ∷ []) None) in
     subst P (append_assoc done (x ∷ []) xs)
     (reaches_both record_grammar here next (at due.Rest regs flags f g head (steps ++ holding s ((done ++ x ∷ []) ++ xs) ∷ []) None) (fill_line x) (flat_map fill_line xs) first
@@ -230,6 +222,9 @@ end_reached r end rest on =
     subst P (end_explicit end)
     (line_reached r (record r { end = Some end }) (codes "end") (end_word end ∷ []) word plain on (rest_line r (codes "end") (end_word end ∷ []) rest word plain ∙ read))
 
+end_joined : (text word end gap : List ℕ) → text ++ ((word ++ end) ++ gap) ≡ ((text ++ word) ++ end) ++ gap
+end_joined text word end gap = simp append_assoc
+
 pub record_reads : (r : RunRecord) → IsStartFile r.start → r.start.choices ≡ [] → All IsStep r.steps → StatesRecord (record_text r) r
 unfolding record_text start_lines
 record_reads r is none_chosen steps =
@@ -256,6 +251,6 @@ record_reads r is none_chosen steps =
     let P : List ℕ → Type 0 = λ text. Reaches record_grammar s0 text s7 in
     record {
       read = s7;
-      reads = reaches_end record_grammar s0 s7 (record_text r) (subst P (simp append_assoc) all) refl;
+      reads = reaches_end record_grammar s0 s7 (record_text r) (subst P (end_joined (((record_header ++ newline) ++ start_lines r.start) ++ flat_map step_lines r.steps) (codes "end ") (end_word r.end) newline) all) refl;
       is = record { regs = refl; flags = refl; fs = refl; gs = refl; fill = refl; choices = none_chosen; steps = refl; end = refl };
     }

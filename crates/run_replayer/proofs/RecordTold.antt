@@ -15,9 +15,9 @@ use Rattle.run_replayer.specs.declared.head.Head.{Head}
 use Rattle.run_replayer.specs.declared.record_reader.RecordReader.{RecordReader}
 use Rattle.run_replayer.specs.Fields.{ending_of, fill_of, step_of}
 use Rattle.text_fields.specs.Lines.{WORD}
-use Rattle.run_replayer.specs.Grammar.{StatesRecord, head_step, is_rest, no_record, or_field, record_grammar, record_rest, record_step, with_last, with_record_fill, with_step_fill, within}
-use Rattle.run_replayer.specs.Texts.{choice_fields, end_word, fill_line, record_header, record_text, start_lines, step_lines, word_field}
-use Rattle.run_replayer.proofs.HeadTold.{due_told, field_made, mapped, told_due}
+use Rattle.run_replayer.specs.Grammar.{IsRecord, StatesRecord, head_step, is_rest, no_record, or_field, record_grammar, record_read, record_rest, record_step, with_last, with_record_fill, with_step_fill, within}
+use Rattle.run_replayer.specs.Texts.{bases_line, choice_fields, end_word, fill_line, flags_line, record_header, record_text, regs_line, start_lines, step_lines, word_field}
+use Rattle.run_replayer.proofs.HeadTold.{due_told, field_made, first_gains, four, fourth_gains, mapped, second_gains, third_gains, told_due, told_due-fill, told_due-rest}
 use Rattle.run_replayer.proofs.LineTexts.{ending_told, fill_told, step_told}
 use Rattle.run_replayer.proofs.Splitting.{Tells, fields_back, kept_lines, spaced, told_text}
 use Rattle.run_replayer.proofs.StartTold.{flat_map-last, flat_map-with_last, within_made}
@@ -41,10 +41,6 @@ pub record Keeps (s : RecordReader) : Type 0 where
   pub fresh : is_rest s.head.due ≡ false → (s.head.fill ≡ []) × (s.steps ≡ [])
   pub late : is_some s.end ≡ true → is_rest s.head.due ≡ true
 
--- a text in four parts, where a part gains something
-gains_second : (a b c more : List ℕ) → c ≡ [] → (a ++ (b ++ more) ++ c) ++ [] ≡ (a ++ b ++ c ++ []) ++ more
-gains_second a b c more e = rw e (simp (append_assoc, append-nil))
-
 record Adds (s t : RecordReader) (line : List ℕ) : Type 0 where
   text : told t ≡ told s ++ (line ++ newline)
   kept : Keeps t
@@ -54,42 +50,65 @@ rest_kept s t rest same =
     let r : is_rest t.head.due ≡ true = ap is_rest same ∙ rest in
     record { fresh = λ e. (let no : true ≡ false = sym r ∙ e in let never : ⊥ = cc in absurd never); late = λ _. r }
 
-filled : (f : Fill) (steps : List RunStep) (s : RecordReader) (line : List ℕ) → s.steps ≡ steps → s.end ≡ None → is_rest s.head.due ≡ true → line ++ newline ≡ fill_line f → Adds s (with_record_fill f steps s) line
-unfolding told
-filled f [] s line is on rest text = record {
-  text =
-      ap (λ l. told_due record_header s.head.due s.head ++ l ++ flat_map step_lines s.steps ++ end_told s.end) (flat_map-last fill_line s.head.fill f)
-      ∙ rw (is, on, ← text) (simp (append_assoc, append-nil));
-  kept = rest_kept s (with_record_fill f [] s) rest refl;
-}
-filled f (c ∷ cs) s line is on rest text = record {
-  text =
-      ap (λ l. told_due record_header s.head.due s.head ++ flat_map fill_line s.head.fill ++ l ++ end_told s.end) (flat_map-with_last step_lines (with_step_fill f) (fill_line f) (λ x. step_gains f x) c cs)
-      ∙ rw (is, on, ← text) (simp (append_assoc, append-nil));
-  kept = rest_kept s (with_record_fill f (c ∷ cs) s) rest refl;
-}
+filled : (f : Fill) (items : List RunStep) (s : RecordReader) (line : List ℕ) → s.steps ≡ items → s.end ≡ None → is_rest s.head.due ≡ true → line ++ newline ≡ fill_line f → Adds s (with_record_fill f items s) line
+unfolding told end_told
+filled f [] s line is on rest text =
+    let head : List ℕ = told_due record_header s.head.due s.head in
+    let fills : List ℕ = flat_map fill_line s.head.fill in
+    record {
+      text =
+          four _ _ _ _ head (fills ++ (line ++ newline)) [] []
+          (told_due-fill record_header s.head.due s.head (s.head.fill ++ f ∷ [])) (flat_map-last fill_line s.head.fill f ∙ ap (λ l. fills ++ l) (sym text)) (ap (flat_map step_lines) is) (ap end_told on)
+          ∙ second_gains head fills (line ++ newline)
+          ∙ ap (λ l. l ++ (line ++ newline)) (sym (four head fills (flat_map step_lines s.steps) (end_told s.end) head fills [] [] refl refl (ap (flat_map step_lines) is) (ap end_told on)));
+      kept = rest_kept s (with_record_fill f [] s) rest refl;
+    }
+filled f (c ∷ cs) s line is on rest text =
+    let head : List ℕ = told_due record_header s.head.due s.head in
+    let fills : List ℕ = flat_map fill_line s.head.fill in
+    let items : List ℕ = flat_map step_lines (c ∷ cs) in
+    record {
+      text =
+          four head fills _ _ head fills (items ++ (line ++ newline)) []
+          refl refl (flat_map-with_last step_lines (with_step_fill f) (fill_line f) (λ x. step_gains f x) c cs ∙ ap (λ l. items ++ l) (sym text)) (ap end_told on)
+          ∙ third_gains head fills items (line ++ newline)
+          ∙ ap (λ l. l ++ (line ++ newline)) (sym (four head fills (flat_map step_lines s.steps) (end_told s.end) head fills items [] refl refl (ap (flat_map step_lines) is) (ap end_told on)));
+      kept = rest_kept s (with_record_fill f (c ∷ cs) s) rest refl;
+    }
 
 stepped : (c : RunStep) (s : RecordReader) (line : List ℕ) → s.end ≡ None → is_rest s.head.due ≡ true → line ++ newline ≡ step_lines c → Adds s (record s { steps = s.steps ++ c ∷ [] }) line
-unfolding told
-stepped c s line on rest text = record {
-  text =
-      ap (λ l. told_due record_header s.head.due s.head ++ flat_map fill_line s.head.fill ++ l ++ end_told s.end) (flat_map-last step_lines s.steps c)
-      ∙ rw (on, ← text) (simp (append_assoc, append-nil));
-  kept = rest_kept s (record s { steps = s.steps ++ c ∷ [] }) rest refl;
-}
+unfolding told end_told
+stepped c s line on rest text =
+    let head : List ℕ = told_due record_header s.head.due s.head in
+    let fills : List ℕ = flat_map fill_line s.head.fill in
+    let items : List ℕ = flat_map step_lines s.steps in
+    record {
+      text =
+          four head fills _ _ head fills (items ++ (line ++ newline)) []
+          refl refl (flat_map-last step_lines s.steps c ∙ ap (λ l. items ++ l) (sym text)) (ap end_told on)
+          ∙ third_gains head fills items (line ++ newline)
+          ∙ ap (λ l. l ++ (line ++ newline)) (sym (four head fills items (end_told s.end) head fills items [] refl refl refl (ap end_told on)));
+      kept = rest_kept s (record s { steps = s.steps ++ c ∷ [] }) rest refl;
+    }
 
 closed : (end : EndWord) (s : RecordReader) (line : List ℕ) → s.end ≡ None → is_rest s.head.due ≡ true → line ++ newline ≡ codes "end " ++ end_word end ++ newline → Adds s (record s { end = Some end }) line
-unfolding told
-closed end s line on rest text = record {
-  text = rw (on, text) (simp (append_assoc, append-nil));
-  kept = rest_kept s (record s { end = Some end }) rest refl;
-}
+unfolding told end_told
+closed end s line on rest text =
+    let head : List ℕ = told_due record_header s.head.due s.head in
+    let fills : List ℕ = flat_map fill_line s.head.fill in
+    let items : List ℕ = flat_map step_lines s.steps in
+    record {
+      text =
+          ap (λ l. head ++ fills ++ items ++ l) (sym text) ∙ fourth_gains head fills items (line ++ newline)
+          ∙ ap (λ l. l ++ (line ++ newline)) (sym (four head fills items (end_told s.end) head fills items [] refl refl refl (ap end_told on)));
+      kept = rest_kept s (record s { end = Some end }) rest refl;
+    }
 
 step_text : (fs : List (List ℕ)) (s : RunStep) → step_of fs ≡ Some s → (codes "step" ++ spaced fs) ++ newline ≡ step_lines s
-unfolding step_lines
+unfolding step_lines choice_fields
 step_text fs s e =
     let h = step_told fs s e in
-    rw (h.text, h.no_fill) (simp (append_assoc, append-nil))
+    rw (h.text, h.no_fill) (sym (append-nil (codes "step" ++ word_field s.from ++ word_field s.to ++ choice_fields s.choice ++ newline)))
 
 end_text : (fs : List (List ℕ)) (end : EndWord) → ending_of fs ≡ Some end → (codes "end" ++ spaced fs) ++ newline ≡ codes "end " ++ end_word end ++ newline
 end_text fs end e = rw (ending_told fs end e) refl
@@ -121,19 +140,30 @@ by_fields s t line [] parts on rest h = cc
 by_fields s t line (word ∷ fs) parts on rest h =
     by_word s t word line fs (bytes_eq word (codes "fill")) (bytes_eq word (codes "step")) (bytes_eq word (codes "end")) parts on rest refl refl refl h
 
+head_adds : (s : RecordReader) (k : Head) (line : List ℕ) → s.end ≡ None → s.head.fill ≡ [] → s.steps ≡ [] → k.fill ≡ []
+    → told_due record_header k.due k ≡ told_due record_header s.head.due s.head ++ (line ++ newline) → Adds s (record s { head = k }) line
+unfolding told end_told
+head_adds s k line on no_fill none fresh text =
+    let head : List ℕ = told_due record_header s.head.due s.head in
+    record {
+      text =
+          four _ _ _ _ (head ++ (line ++ newline)) [] [] [] text (ap (flat_map fill_line) fresh) (ap (flat_map step_lines) none) (ap end_told on)
+          ∙ first_gains head (line ++ newline)
+          ∙ ap (λ l. l ++ (line ++ newline)) (sym (four head (flat_map fill_line s.head.fill) (flat_map step_lines s.steps) (end_told s.end) head [] [] [] refl (ap (flat_map fill_line) no_fill) (ap (flat_map step_lines) none) (ap end_told on)));
+      kept = record { fresh = λ _. (fresh, none); late = λ e. (let no : true ≡ false = sym e ∙ ap is_some on in let never : ⊥ = cc in absurd never) };
+    }
+
 by_due : (s t : RecordReader) (line : List ℕ) (rest : Bool) → is_rest s.head.due ≡ rest → Keeps s → s.end ≡ None
     → (if rest then record_rest s (fields line) else within (λ (h : Head). record s { head = h }) (head_step record_header s.head line)) ≡ Ok t → Adds s t line
-unfolding told head_step
+unfolding head_step
 by_due s t line true is kept on h = by_fields s t line (fields line) refl on is h
 by_due s t line false is kept on h =
     let m = within_made _ (head_step record_header s.head line) t h in
     let line_told = due_told record_header s.head.due s.head m.0 line m.1 in
     let none = kept.fresh is in
     let no_fill : m.0.fill ≡ [] = line_told.fill ∙ none.0 in
-    subst (λ (u : RecordReader). Adds s u line) m.2 (record {
-      text = rw (no_fill, none.0, none.1, on, line_told.text) (simp (append_assoc, append-nil));
-      kept = record { fresh = λ _. (no_fill, none.1); late = λ e. (let no : true ≡ false = sym e ∙ ap is_some on in let never : ⊥ = cc in absurd never) };
-    })
+    subst (λ (u : RecordReader). Adds s u line) m.2
+    (head_adds s m.0 line on none.0 none.1 no_fill line_told.text)
 
 not_some : (o : Option EndWord) → is_some o ≡ false → o ≡ None
 not_some None e = refl
@@ -146,19 +176,46 @@ tells = record {
   adds = λ s t line kept on is. (by_due s t line (is_rest s.head.due) refl kept (not_some s.end on) is).text;
 }
 
-at_rest : (d : Due) (h : Head) → is_rest d ≡ true → told_due record_header d h ≡ told_due record_header due.Rest h
-unfolding told_due
-at_rest due.Header h e = cc
-at_rest due.Regs h e = cc
-at_rest due.Flags h e = cc
-at_rest due.Bases h e = cc
-at_rest due.Rest h e = refl
+-- the text of a record by its fields
+written : List ℕ → ℕ → ℕ → ℕ → List Fill → List RunStep → EndWord → List ℕ
+written regs flags fs gs fill steps end =
+    record_header ++ newline ++ (regs_line regs ++ flags_line flags ++ bases_line fs gs ++ flat_map fill_line fill) ++ flat_map step_lines steps ++ codes "end " ++ end_word end ++ newline
+
+joined : (h n r f b l i c w e : List ℕ) → ((((((h ++ n) ++ r) ++ f) ++ b) ++ l) ++ i) ++ ((c ++ w) ++ e) ≡ (((((h ++ n) ++ (((r ++ f) ++ b) ++ l)) ++ i) ++ c) ++ w) ++ e
+joined h n r f b l i c w e = simp append_assoc
+
+told_written : (read : RecordReader) (end : EndWord) → is_rest read.head.due ≡ true → read.end ≡ Some end
+    → told read ≡ written read.head.regs read.head.flags read.head.fs read.head.gs read.head.fill read.steps end
+unfolding told told_due end_told written
+told_written read end rest ended =
+    ap (λ l. l ++ flat_map fill_line read.head.fill ++ flat_map step_lines read.steps ++ end_told read.end) (told_due-rest record_header read.head.due read.head rest)
+    ∙ ap (λ (o : Option EndWord). told_due record_header due.Rest read.head ++ flat_map fill_line read.head.fill ++ flat_map step_lines read.steps ++ end_told o) ended
+    ∙ joined record_header newline (regs_line read.head.regs) (flags_line read.head.flags) (bases_line read.head.fs read.head.gs) (flat_map fill_line read.head.fill)
+      (flat_map step_lines read.steps) (codes "end ") (end_word end) newline
+
+written_same : (read : RecordReader) (r : RunRecord) → IsRecord read r
+    → written read.head.regs read.head.flags read.head.fs read.head.gs read.head.fill read.steps r.end ≡ written r.start.regs r.start.flags r.start.fs r.start.gs r.start.fill r.steps r.end
+written_same read r is = cc
+
+written_text : (r : RunRecord) → written r.start.regs r.start.flags r.start.fs r.start.gs r.start.fill r.steps r.end ≡ record_text r
+unfolding written record_text start_lines
+written_text r = refl
+
+nothing_kept : Keeps no_record
+nothing_kept = record { fresh = λ _. (refl, refl); late = λ e. cc }
 
 pub record_told : (text : List ℕ) (r : RunRecord) → StatesRecord text r → text ≡ record_text r
-unfolding told told_due record_text start_lines
+unfolding told told_due
 record_told text r h =
-    let kept : Keeps no_record = record { fresh = λ _. (refl, refl); late = λ e. cc } in
-    let last = kept_lines record_grammar Keeps told tells (lines text) 1 no_record h.read kept h.reads in
-    told_text record_grammar Keeps told tells no_record h.read text kept refl h.reads
-    ∙ ap (λ l. l ++ flat_map fill_line h.read.head.fill ++ flat_map step_lines h.read.steps ++ end_told h.read.end) (at_rest h.read.head.due h.read.head (last.0.late last.1))
-    ∙ rw (h.is.end, ← h.is.regs, ← h.is.flags, ← h.is.fs, ← h.is.gs, ← h.is.fill, ← h.is.steps) (simp append_assoc)
+    let last = kept_lines record_grammar Keeps told tells (lines text) 1 no_record h.read nothing_kept h.reads in
+    told_text record_grammar Keeps told tells no_record h.read text nothing_kept refl h.reads
+    ∙ told_written h.read r.end (last.0.late last.1) h.is.end ∙ written_same h.read r h.is ∙ written_text r
+
+ended_some : (o : Option EndWord) → is_some o ≡ true → o ≡ None → ⊥
+ended_some None e f = (let never : ⊥ = cc in never)
+ended_some (Some end) e f = (let never : ⊥ = cc in never)
+
+-- what was read of a whole text has its end
+pub record_ends : (text : List ℕ) (read : RecordReader) → record_read text ≡ Ok read → read.end ≡ None → ⊥
+record_ends text read h none =
+    ended_some read.end (kept_lines record_grammar Keeps told tells (lines text) 1 no_record read nothing_kept h).1 none

@@ -1,5 +1,5 @@
 -- The verdict of steps: by an index as by the automaton itself, and by each rule in its turn.
-use Rattle.std.proofs.Common.{◌≡◌, ◌≢◌, ℕ, suc, ◌+◌, ◌<◌, ◌≤◌, ◌⊎◌, List, [], ◌∷◌, length, drop, get_or, refl, sym, ◌∙◌, ap, subst, inl, inr, Some, arith, drop-cons}
+use Rattle.std.proofs.Common.{◌≡◌, ◌≢◌, ℕ, Bool, true, false, suc, ◌+◌, ◌<◌, ◌≤◌, ◌⊎◌, List, [], ◌∷◌, length, drop, get_or, refl, sym, ◌∙◌, ap, subst, inl, inr, Some, arith, drop-cons}
 use Rattle.std.proofs.lemmas.List.{drop_all}
 use Rattle.std.specs.Prelude.{Contains}
 use Rattle.memory_map.specs.Image.{Image}
@@ -7,7 +7,8 @@ use Rattle.memory_map.specs.State.{MachineState}
 use Rattle.stub_file.specs.Stubs.{StatedStubs}
 use Rattle.flow_log.specs.declared.edge.Edge.{Edge}
 use Rattle.automaton_text.specs.declared.automaton.Automaton.{Automaton}
-use Rattle.x86_machine.specs.Machine.{edge_of}
+use Rattle.flow_log.specs.declared.edge.Label.{Label}
+use Rattle.x86_machine.specs.Machine.{edge_of, label_at}
 use Rattle.x86_machine.specs.StepBy.{StepEnd, StepBy, stepped, faulted, not_listed, no_stub, exited, bad_choice}
 use Rattle.run_replayer.specs.declared.index.Index.{Index}
 use Rattle.run_replayer.specs.declared.record.RunStep.{RunStep}
@@ -63,6 +64,22 @@ module _ (image : Image) (stubs : StatedStubs) (i : Index) (n : ℕ) (m : Machin
     decides = λ steps. inr (closed, inl (from, record { outcome = stepped next; comes = comes; decides = inl (to, inr (none, refl)) }));
   }
 
+-- what a look-up tells of what equals the item that was looked up
+pub lacks_same : {X : Type 0} (held : List X) (a b : X) (found : Bool) → a ≡ b → (Contains held a → found ≡ true) → found ≡ false → Contains held b → ⊥
+lacks_same {X} held a b found is tells missing has =
+    let P : X → Type 0 = λ x. Contains held x in
+    let same : false ≡ true = sym missing ∙ tells (subst P (sym is) has) in
+    let never : ⊥ = cc in never
+
+pub has_same : {X : Type 0} (held : List X) (a b : X) (found : Bool) → a ≡ b → (found ≡ true → Contains held a) → found ≡ true → Contains held b
+has_same {X} held a b found is tells present = (let P : X → Type 0 = λ x. Contains held x in subst P is (tells present))
+
+-- the edge of a step by its parts
+pub same_edge : (image : Image) (m next : MachineState) (from to : ℕ) (label : Label) → m.eip ≡ from → next.eip ≡ to → label ≡ label_at image m
+    → record { from = from; to = to; label = label } ≡ edge_of image m next
+unfolding edge_of
+same_edge image m next from to label e f g = cc
+
 -- what two choices have in common
 whether : {P Q A B C D : Type 0} → (P → Q) → (Q → P) → (A → C) → (B → D) → Whether P A B → Whether Q C D
 whether there back first second (inl (holds, a)) = inl (there holds, first a)
@@ -97,7 +114,7 @@ none_passed image stubs i start steps = record { number = refl; goes = λ verdic
 
 module _ (image : Image) (stubs : StatedStubs) (i : Index) (start : MachineState) (steps : List RunStep) (done n : ℕ) (m : MachineState) (is : IsReplaying image stubs i start steps done n m) where
   next_step : (s : RunStep) → done < length steps → s ≡ get_or steps done s → drop done steps ≡ s ∷ drop (done + 1) steps
-  next_step s below at = drop-cons steps done s ∙ ap (λ x. x ∷ drop (suc done) steps) (sym at) ∙ ap (λ k. s ∷ drop k steps) (let e : suc done ≡ done + 1 = omega arith in e)
+  next_step s below at = drop-cons steps done s below ∙ ap (λ x. x ∷ drop (suc done) steps) (sym at) ∙ ap (λ k. s ∷ drop k steps) (let e : suc done ≡ done + 1 = omega arith in e)
 
   pub one_passed : (s : RunStep) (next : MachineState) → done < length steps → s ≡ get_or steps done s → Passes image stubs i n m s next → IsReplaying image stubs i start steps (done + 1) (n + 1) next
   one_passed s next below at passes = record {

@@ -1,5 +1,5 @@
 -- Lines and fields of texts that are put together, and texts that are read line by line.
-use Rattle.std.proofs.Common.{◌≡◌, ℕ, zero, suc, ◌+◌, ◌<◌, ◌==◌, Bool, true, false, List, [], ◌∷◌, ◌++◌, length, refl, sym, ◌∙◌, ap, subst, inl, inr, arith, append_assoc, Ok, Err}
+use Rattle.std.proofs.Common.{◌≡◌, ℕ, zero, suc, ◌+◌, ◌<◌, ◌==◌, Bool, true, false, List, [], ◌∷◌, ◌++◌, length, refl, sym, ◌∙◌, ap, subst, inl, inr, arith, append_assoc, append-nil, Ok, Err}
 use Rattle.std.specs.Prelude.{All, flat_map, Result, ◌&&◌, nat_eq, if◌then◌else◌}
 use Rattle.std.specs.List.{join_with_byte, slice_split}
 use Rattle.std.proofs.lemmas.List.Elements.{All-append, All-cons, All-nil}
@@ -35,12 +35,12 @@ same_byte c = grind (arith, nat_tests)
 pub fields_spaced : (first : List ℕ) (fs : List (List ℕ)) → IsPlain first → ArePlain fs → fields (first ++ spaced fs) ≡ first ∷ fs
 unfolding fields
 fields_spaced first [] plain others =
-    (let e : first ++ [] ≡ first = search arith in rw e (slice_split_none (λ b. b == 32) first (parts_from 32 first plain)))
+    rw (append-nil first) (slice_split_none (λ b. b == 32) first (parts_from 32 first plain))
 fields_spaced first (f ∷ fs) plain (one _ _ p ps) =
     slice_split_at (λ b. b == 32) first 32 (f ++ spaced fs) (parts_from 32 first plain) (same_byte 32) ∙ ap (λ l. first ∷ l) (fields_spaced f fs p ps)
 
 joined : (first : List ℕ) (fs : List (List ℕ)) → join_with_byte 32 (first ∷ fs) ≡ first ++ spaced fs
-joined first [] = search arith
+joined first [] = sym (append-nil first)
 joined first (f ∷ fs) = ap (λ l. first ++ (32 ∷ l)) (joined f fs)
 
 -- a line is its first field and the others
@@ -87,7 +87,7 @@ module _ {S : Type 0} (g : Grammar S) where
   unfolding lines
   reaches_end s t text h over =
       let all : (m : ℕ) × (read_from g 1 s (lines (text ++ [])) ≡ read_from g m t (lines [])) = h.goes 1 [] in
-      ap (λ l. read_from g 1 s (lines l)) (let e : text ≡ text ++ [] = search arith in e) ∙ all.1 ∙ read_last g all.0 t [] refl refl over
+      ap (λ l. read_from g 1 s (lines l)) (sym (append-nil text)) ∙ all.1 ∙ read_last g all.0 t [] refl refl over
 
   -- what a state has stated, as a text: each line adds itself
   pub record Tells (Keeps : S → Type 0) (told : S → List ℕ) : Type 0 where
@@ -97,7 +97,7 @@ module _ {S : Type 0} (g : Grammar S) where
   module _ (Keeps : S → Type 0) (told : S → List ℕ) (tells : Tells Keeps told) where
     last_by : (n : ℕ) (s t : S) (rest : List ℕ) (ended empty : Bool) → (length rest == 0) ≡ empty
         → ◌≡◌ {A = Result S LineFault} (if ended && empty then Ok s else Err (end_fault n)) (Ok t) → told t ≡ told s ++ rest
-    last_by n s t [] true true e h = (let same : s ≡ t = cc in ap told (sym same) ∙ (let e : told s ≡ told s ++ [] = search arith in e))
+    last_by n s t [] true true e h = (let same : s ≡ t = cc in ap told (sym same) ∙ sym (append-nil (told s)))
     last_by n s t (b ∷ rest) ended true e h = (let never : length (b ∷ rest) ≡ 0 = grind (arith, nat_tests) in absurd (omega (arith, never)))
     last_by n s t rest true false e h = cc
     last_by n s t rest false empty e h = cc

@@ -16,9 +16,9 @@ use Rattle.text_fields.specs.Fields.{no_more}
 use Rattle.run_replayer.specs.Fields.{choice_of, fill_of}
 use Rattle.text_fields.specs.Lines.{WORD}
 use Rattle.run_replayer.specs.Grammar.{IsStart, StatesStart, head_step, is_rest, no_start, or_field, start_grammar, start_rest, start_step, with_fill, with_head_fill, with_last, with_start_fill, within}
-use Rattle.run_replayer.specs.Texts.{choice_fields, choice_lines, fill_line, start_header, start_lines, start_text}
+use Rattle.run_replayer.specs.Texts.{bases_line, choice_fields, choice_lines, fill_line, flags_line, regs_line, start_header, start_lines, start_text}
 use Rattle.run_replayer.proofs.FieldTexts.{is_done}
-use Rattle.run_replayer.proofs.HeadTold.{due_told, field_made, mapped, told_due}
+use Rattle.run_replayer.proofs.HeadTold.{due_told, field_made, first_gains, four, fourth_gains, mapped, second_gains, third_gains, told_due, told_due-fill, told_due-rest}
 use Rattle.run_replayer.proofs.LineTexts.{choice_told, fill_told}
 use Rattle.run_replayer.proofs.Splitting.{Tells, fields_back, kept_lines, spaced, told_text}
 
@@ -55,10 +55,6 @@ pub record Keeps (s : StartReader) : Type 0 where
   pub fresh : is_rest s.head.due ≡ false → (s.head.fill ≡ []) × (s.choices ≡ [])
   pub late : s.ended ≡ true → is_rest s.head.due ≡ true
 
--- a text in four parts, where a part gains something
-gains_second : (a b c more : List ℕ) → c ≡ [] → (a ++ (b ++ more) ++ c) ++ [] ≡ (a ++ b ++ c ++ []) ++ more
-gains_second a b c more e = rw e (simp (append_assoc, append-nil))
-
 record Adds (s t : StartReader) (line : List ℕ) : Type 0 where
   text : told t ≡ told s ++ (line ++ newline)
   kept : Keeps t
@@ -68,39 +64,62 @@ rest_kept s t rest same =
     let r : is_rest t.head.due ≡ true = ap is_rest same ∙ rest in
     record { fresh = λ e. (let no : true ≡ false = sym r ∙ e in let never : ⊥ = cc in absurd never); late = λ _. r }
 
-filled : (f : Fill) (choices : List Choice) (s : StartReader) (line : List ℕ) → s.choices ≡ choices → s.ended ≡ false → is_rest s.head.due ≡ true → line ++ newline ≡ fill_line f → Adds s (with_start_fill f choices s) line
-unfolding told
-filled f [] s line is on rest text = record {
-  text =
-      ap (λ l. told_due start_header s.head.due s.head ++ l ++ flat_map choice_lines s.choices ++ end_told s.ended) (flat_map-last fill_line s.head.fill f)
-      ∙ rw (is, on, ← text) (simp (append_assoc, append-nil));
-  kept = rest_kept s (with_start_fill f [] s) rest refl;
-}
-filled f (c ∷ cs) s line is on rest text = record {
-  text =
-      ap (λ l. told_due start_header s.head.due s.head ++ flat_map fill_line s.head.fill ++ l ++ end_told s.ended) (flat_map-with_last choice_lines (with_fill f) (fill_line f) (λ x. choice_gains f x) c cs)
-      ∙ rw (is, on, ← text) (simp (append_assoc, append-nil));
-  kept = rest_kept s (with_start_fill f (c ∷ cs) s) rest refl;
-}
+filled : (f : Fill) (items : List Choice) (s : StartReader) (line : List ℕ) → s.choices ≡ items → s.ended ≡ false → is_rest s.head.due ≡ true → line ++ newline ≡ fill_line f → Adds s (with_start_fill f items s) line
+unfolding told end_told
+filled f [] s line is on rest text =
+    let head : List ℕ = told_due start_header s.head.due s.head in
+    let fills : List ℕ = flat_map fill_line s.head.fill in
+    record {
+      text =
+          four _ _ _ _ head (fills ++ (line ++ newline)) [] []
+          (told_due-fill start_header s.head.due s.head (s.head.fill ++ f ∷ [])) (flat_map-last fill_line s.head.fill f ∙ ap (λ l. fills ++ l) (sym text)) (ap (flat_map choice_lines) is) (ap end_told on)
+          ∙ second_gains head fills (line ++ newline)
+          ∙ ap (λ l. l ++ (line ++ newline)) (sym (four head fills (flat_map choice_lines s.choices) (end_told s.ended) head fills [] [] refl refl (ap (flat_map choice_lines) is) (ap end_told on)));
+      kept = rest_kept s (with_start_fill f [] s) rest refl;
+    }
+filled f (c ∷ cs) s line is on rest text =
+    let head : List ℕ = told_due start_header s.head.due s.head in
+    let fills : List ℕ = flat_map fill_line s.head.fill in
+    let items : List ℕ = flat_map choice_lines (c ∷ cs) in
+    record {
+      text =
+          four head fills _ _ head fills (items ++ (line ++ newline)) []
+          refl refl (flat_map-with_last choice_lines (with_fill f) (fill_line f) (λ x. choice_gains f x) c cs ∙ ap (λ l. items ++ l) (sym text)) (ap end_told on)
+          ∙ third_gains head fills items (line ++ newline)
+          ∙ ap (λ l. l ++ (line ++ newline)) (sym (four head fills (flat_map choice_lines s.choices) (end_told s.ended) head fills items [] refl refl (ap (flat_map choice_lines) is) (ap end_told on)));
+      kept = rest_kept s (with_start_fill f (c ∷ cs) s) rest refl;
+    }
 
 chosen : (c : Choice) (s : StartReader) (line : List ℕ) → s.ended ≡ false → is_rest s.head.due ≡ true → line ++ newline ≡ choice_lines c → Adds s (record s { choices = s.choices ++ c ∷ [] }) line
-unfolding told
-chosen c s line on rest text = record {
-  text =
-      ap (λ l. told_due start_header s.head.due s.head ++ flat_map fill_line s.head.fill ++ l ++ end_told s.ended) (flat_map-last choice_lines s.choices c)
-      ∙ rw (on, ← text) (simp (append_assoc, append-nil));
-  kept = rest_kept s (record s { choices = s.choices ++ c ∷ [] }) rest refl;
-}
+unfolding told end_told
+chosen c s line on rest text =
+    let head : List ℕ = told_due start_header s.head.due s.head in
+    let fills : List ℕ = flat_map fill_line s.head.fill in
+    let items : List ℕ = flat_map choice_lines s.choices in
+    record {
+      text =
+          four head fills _ _ head fills (items ++ (line ++ newline)) []
+          refl refl (flat_map-last choice_lines s.choices c ∙ ap (λ l. items ++ l) (sym text)) (ap end_told on)
+          ∙ third_gains head fills items (line ++ newline)
+          ∙ ap (λ l. l ++ (line ++ newline)) (sym (four head fills items (end_told s.ended) head fills items [] refl refl refl (ap end_told on)));
+      kept = rest_kept s (record s { choices = s.choices ++ c ∷ [] }) rest refl;
+    }
 
 closed : (s : StartReader) (line : List ℕ) → s.ended ≡ false → is_rest s.head.due ≡ true → line ++ newline ≡ codes "end" ++ newline → Adds s (record s { ended = true }) line
-unfolding told
-closed s line on rest text = record {
-  text = rw (on, text) (simp (append_assoc, append-nil));
-  kept = rest_kept s (record s { ended = true }) rest refl;
-}
+unfolding told end_told
+closed s line on rest text =
+    let head : List ℕ = told_due start_header s.head.due s.head in
+    let fills : List ℕ = flat_map fill_line s.head.fill in
+    let items : List ℕ = flat_map choice_lines s.choices in
+    record {
+      text =
+          ap (λ l. head ++ fills ++ items ++ l) (sym text) ∙ fourth_gains head fills items (line ++ newline)
+          ∙ ap (λ l. l ++ (line ++ newline)) (sym (four head fills items (end_told s.ended) head fills items [] refl refl refl (ap end_told on)));
+      kept = rest_kept s (record s { ended = true }) rest refl;
+    }
 
 choice_text : (fs : List (List ℕ)) (c : Choice) → choice_of fs ≡ Some c → (codes "choice" ++ spaced fs) ++ newline ≡ choice_lines c
-unfolding choice_lines
+unfolding choice_lines choice_fields
 choice_text fs c e = (let h = choice_told fs c e in rw (h.text, h.no_fill) (sym (append-nil (codes "choice" ++ choice_fields c ++ newline))))
 
 by_word : (s t : StartReader) (word line : List ℕ) (fs : List (List ℕ)) (fill choice end : Bool) → fields line ≡ word ∷ fs → s.ended ≡ false → is_rest s.head.due ≡ true
@@ -134,19 +153,30 @@ pub within_made : {A B : Type 0} (whole : A → B) (r : Result A ℕ) (b : B) �
 within_made whole (Ok a) b h = (a, refl, cc)
 within_made whole (Err kind) b h = cc
 
+head_adds : (s : StartReader) (k : Head) (line : List ℕ) → s.ended ≡ false → s.head.fill ≡ [] → s.choices ≡ [] → k.fill ≡ []
+    → told_due start_header k.due k ≡ told_due start_header s.head.due s.head ++ (line ++ newline) → Adds s (record s { head = k }) line
+unfolding told end_told
+head_adds s k line on no_fill none fresh text =
+    let head : List ℕ = told_due start_header s.head.due s.head in
+    record {
+      text =
+          four _ _ _ _ (head ++ (line ++ newline)) [] [] [] text (ap (flat_map fill_line) fresh) (ap (flat_map choice_lines) none) (ap end_told on)
+          ∙ first_gains head (line ++ newline)
+          ∙ ap (λ l. l ++ (line ++ newline)) (sym (four head (flat_map fill_line s.head.fill) (flat_map choice_lines s.choices) (end_told s.ended) head [] [] [] refl (ap (flat_map fill_line) no_fill) (ap (flat_map choice_lines) none) (ap end_told on)));
+      kept = record { fresh = λ _. (fresh, none); late = λ e. (let no : true ≡ false = sym e ∙ on in let never : ⊥ = cc in absurd never) };
+    }
+
 by_due : (s t : StartReader) (line : List ℕ) (rest : Bool) → is_rest s.head.due ≡ rest → Keeps s → s.ended ≡ false
     → (if rest then start_rest s (fields line) else within (λ (h : Head). record s { head = h }) (head_step start_header s.head line)) ≡ Ok t → Adds s t line
-unfolding told head_step
+unfolding head_step
 by_due s t line true is kept on h = by_fields s t line (fields line) refl on is h
 by_due s t line false is kept on h =
     let m = within_made _ (head_step start_header s.head line) t h in
     let line_told = due_told start_header s.head.due s.head m.0 line m.1 in
     let none = kept.fresh is in
     let no_fill : m.0.fill ≡ [] = line_told.fill ∙ none.0 in
-    subst (λ (u : StartReader). Adds s u line) m.2 (record {
-      text = rw (no_fill, none.0, none.1, on, line_told.text) (simp (append_assoc, append-nil));
-      kept = record { fresh = λ _. (no_fill, none.1); late = λ e. (let no : true ≡ false = sym e ∙ on in let never : ⊥ = cc in absurd never) };
-    })
+    subst (λ (u : StartReader). Adds s u line) m.2
+    (head_adds s m.0 line on none.0 none.1 no_fill line_told.text)
 
 pub tells : Tells start_grammar Keeps told
 unfolding start_step
@@ -155,19 +185,33 @@ tells = record {
   adds = λ s t line kept on is. (by_due s t line (is_rest s.head.due) refl kept on is).text;
 }
 
-at_rest : (d : Due) (h : Head) → is_rest d ≡ true → told_due start_header d h ≡ told_due start_header due.Rest h
-unfolding told_due
-at_rest due.Header h e = cc
-at_rest due.Regs h e = cc
-at_rest due.Flags h e = cc
-at_rest due.Bases h e = cc
-at_rest due.Rest h e = refl
+-- the text of a start file by its fields
+written : List ℕ → ℕ → ℕ → ℕ → List Fill → List Choice → List ℕ
+written regs flags fs gs fill choices =
+    start_header ++ newline ++ (regs_line regs ++ flags_line flags ++ bases_line fs gs ++ flat_map fill_line fill) ++ flat_map choice_lines choices ++ codes "end" ++ newline
+
+joined : (h n r f b l i c e : List ℕ) → ((((((h ++ n) ++ r) ++ f) ++ b) ++ l) ++ i) ++ (c ++ e) ≡ ((((h ++ n) ++ (((r ++ f) ++ b) ++ l)) ++ i) ++ c) ++ e
+joined h n r f b l i c e = simp append_assoc
+
+told_written : (read : StartReader) → is_rest read.head.due ≡ true → read.ended ≡ true → told read ≡ written read.head.regs read.head.flags read.head.fs read.head.gs read.head.fill read.choices
+unfolding told told_due end_told written
+told_written read rest ended =
+    ap (λ l. l ++ flat_map fill_line read.head.fill ++ flat_map choice_lines read.choices ++ end_told read.ended) (told_due-rest start_header read.head.due read.head rest)
+    ∙ ap (λ (b : Bool). told_due start_header due.Rest read.head ++ flat_map fill_line read.head.fill ++ flat_map choice_lines read.choices ++ end_told b) ended
+    ∙ joined start_header newline (regs_line read.head.regs) (flags_line read.head.flags) (bases_line read.head.fs read.head.gs) (flat_map fill_line read.head.fill)
+      (flat_map choice_lines read.choices) (codes "end") newline
+
+written_same : (read : StartReader) (s : StartFile) → IsStart read s → written read.head.regs read.head.flags read.head.fs read.head.gs read.head.fill read.choices ≡ written s.regs s.flags s.fs s.gs s.fill s.choices
+written_same read s is = cc
+
+written_text : (s : StartFile) → written s.regs s.flags s.fs s.gs s.fill s.choices ≡ start_text s
+unfolding written start_text start_lines
+written_text s = refl
 
 pub start_told : (text : List ℕ) (s : StartFile) → StatesStart text s → text ≡ start_text s
-unfolding told told_due start_text start_lines
+unfolding told told_due
 start_told text s h =
     let kept : Keeps no_start = record { fresh = λ _. (refl, refl); late = λ e. cc } in
     let last = kept_lines start_grammar Keeps told tells (lines text) 1 no_start h.read kept h.reads in
     told_text start_grammar Keeps told tells no_start h.read text kept refl h.reads
-    ∙ ap (λ l. l ++ flat_map fill_line h.read.head.fill ++ flat_map choice_lines h.read.choices ++ end_told h.read.ended) (at_rest h.read.head.due h.read.head (last.0.late last.1))
-    ∙ rw (last.1, ← h.is.regs, ← h.is.flags, ← h.is.fs, ← h.is.gs, ← h.is.fill, ← h.is.choices) (simp append_assoc)
+    ∙ told_written h.read (last.0.late last.1) last.1 ∙ written_same h.read s h.is ∙ written_text s

@@ -117,7 +117,7 @@ fn fill_bytes_of(alloc: Global, field: &[u8]) -> Result<Option<FillBytes>, NoMem
 /// EAX ECX EDX EBX ESP EBP ESI EDI.
 #[tactic(auto, unfolding(crate::specs::Fields::regs_of), using(text_fields::proofs::FieldFacts::then_reads, text_fields::proofs::FieldFacts::then_lacks))]
 pub fn regs_of(mut fields: Fields) -> Option<[u32; 8]>
-    ensures { result ≡ regs_of fields }
+    ensures { result ≡ regs_of fields.entry }
 {
     let regs = [
         fields.next_word()?,
@@ -135,7 +135,7 @@ pub fn regs_of(mut fields: Fields) -> Option<[u32; 8]>
 /// Six flags in one field.
 #[tactic(auto, unfolding(crate::specs::Fields::six_flags_of), using(text_fields::proofs::FieldFacts::then_reads, text_fields::proofs::FieldFacts::then_lacks))]
 pub fn six_flags_of(mut fields: Fields) -> Option<SixFlags>
-    ensures { result ≡ six_flags_of fields }
+    ensures { result ≡ six_flags_of fields.entry }
 {
     let flags = next_flags(&mut fields)?;
     if fields.is_done() { Some(flags) } else { None }
@@ -144,7 +144,7 @@ pub fn six_flags_of(mut fields: Fields) -> Option<SixFlags>
 /// FS GS.
 #[tactic(auto, unfolding(crate::specs::Fields::bases_of), using(text_fields::proofs::FieldFacts::then_reads, text_fields::proofs::FieldFacts::then_lacks))]
 pub fn bases_of(mut fields: Fields) -> Option<(u32, u32)>
-    ensures { result ≡ bases_of fields }
+    ensures { result ≡ bases_of fields.entry }
 {
     let fs = fields.next_word()?;
     let gs = fields.next_word()?;
@@ -154,7 +154,7 @@ pub fn bases_of(mut fields: Fields) -> Option<(u32, u32)>
 /// An address and the bytes from there on.
 #[tactic(auto, unfolding(crate::specs::Fields::fill_of), using(text_fields::proofs::FieldFacts::then_reads, text_fields::proofs::FieldFacts::then_lacks))]
 pub fn fill_of(alloc: Global, mut fields: Fields) -> Result<Option<Fill>, NoMemory>
-    ensures { IfOk result (λ read. read ≡ fill_of fields) }
+    ensures { IfOk result (λ read. read ≡ fill_of fields.entry) }
 {
     let Some(at) = fields.next_word() else {
         return Ok(None);
@@ -172,7 +172,7 @@ pub fn fill_of(alloc: Global, mut fields: Fields) -> Result<Option<Fill>, NoMemo
 /// FLAGS EAX ECX EDX BASE FAILS, without fills.
 #[tactic(auto, unfolding(crate::specs::Fields::choice_of), using(text_fields::proofs::FieldFacts::then_reads, text_fields::proofs::FieldFacts::then_lacks))]
 pub fn choice_of(alloc: Global, mut fields: Fields) -> Option<Choice>
-    ensures { result ≡ choice_of fields }
+    ensures { result ≡ choice_of fields.entry }
 {
     let flags = fields.next_byte()?;
     let eax = fields.next_word()?;
@@ -197,7 +197,7 @@ pub fn choice_of(alloc: Global, mut fields: Fields) -> Option<Choice>
 /// FROM TO and a choice.
 #[tactic(auto, unfolding(crate::specs::Fields::step_of), using(text_fields::proofs::FieldFacts::then_reads, text_fields::proofs::FieldFacts::then_lacks))]
 pub fn step_of(alloc: Global, mut fields: Fields) -> Option<RunStep>
-    ensures { result ≡ step_of fields }
+    ensures { result ≡ step_of fields.entry }
 {
     let from = fields.next_word()?;
     let to = fields.next_word()?;
@@ -208,7 +208,7 @@ pub fn step_of(alloc: Global, mut fields: Fields) -> Option<RunStep>
 /// The word of a record's end.
 #[tactic(auto, unfolding(crate::specs::Fields::ending_of), using(text_fields::proofs::FieldFacts::then_reads, text_fields::proofs::FieldFacts::then_lacks))]
 pub fn ending_of(mut fields: Fields) -> Option<EndWord>
-    ensures { result ≡ ending_of fields }
+    ensures { result ≡ ending_of fields.entry }
 {
     let end = next_end(&mut fields)?;
     if fields.is_done() { Some(end) } else { None }

@@ -1,3 +1,4 @@
+ghost use Rattle.x86_machine.specs.Sketch.{Sketch};
 ghost use Rattle.std.specs.Prelude.{◌≡◌, ◌<◌, ◌^◌, IfOk, MatchOption, MatchResult, length, None, option_copied};
 ghost use Rattle.memory_map.specs.Image.{name_at};
 ghost use Rattle.x86_machine.specs.Machine.{instr_bytes, label_at};
@@ -33,6 +34,7 @@ fn code_label(bytes: &[u8]) -> Label
 // The label of a step from where the machine stands.
 #[tactic(auto, unfolding(x86_machine::specs::Machine::label_at))]
 fn label_at(alloc: Global, image: &Image, machine: &Machine) -> Result<Label, NoMemory>
+    requires { Sketch }
     ensures { IfOk result (λ label. label ≡ label_at image.now machine.now) }
 {
     match image.name_at(machine.eip()) {
@@ -51,6 +53,7 @@ fn make_step(
     machine: &mut Machine,
     choice: &Choice,
 ) -> Result<Option<RunKind>, NoMemory>
+    requires { Sketch }
     ensures { IfOk result (λ none. MatchOption none (StepBy image.now stubs.now choice.now machine.old (stepped machine.new)) (MakesNone image.now stubs.now choice.now machine.old)) }
 {
     match machine.step(image, stubs, choice) {
@@ -74,6 +77,7 @@ fn try_step(
     n: u32,
     step: &RunStep,
 ) -> Result<Option<Verdict>, NoMemory>
+    requires { Sketch }
     ensures { IfOk result (λ found. MatchOption found (Passes image.now stubs.now index.now n machine.old step.now machine.new) (Ends image.now stubs.now index.now n machine.old step.now)) }
 {
     let at = machine.eip();
@@ -84,8 +88,9 @@ fn try_step(
         return Ok(Some(Verdict::NotARun(n, RunKind::From)));
     }
     let label = label_at(alloc, image, machine)?;
-    if let Some(kind) = make_step(image, stubs, machine, &step.choice)? {
-        return Ok(Some(Verdict::NotARun(n, kind)));
+    match make_step(image, stubs, machine, &step.choice)? {
+        Some(kind) => return Ok(Some(Verdict::NotARun(n, kind))),
+        None => {}
     }
     if machine.eip() != step.to {
         return Ok(Some(Verdict::NotARun(n, RunKind::To)));
@@ -110,7 +115,8 @@ fn replay_steps(
     mut machine: Machine,
     steps: &[RunStep],
 ) -> Result<Verdict, NoMemory>
-    requires { length steps.now < 2 ^ 32 }
+    requires sketch { Sketch }
+    requires main { length steps.now < 2 ^ 32 }
     ensures { IfOk result (Decides image.now stubs.now index.now.edges index.now.opened 0 machine steps.now) }
 {
     let mut n = 0;
@@ -137,7 +143,8 @@ pub fn replay(
     a: &Automaton,
     r: &RunRecord,
 ) -> Result<Verdict, RunFault>
-    requires { length r.now.steps < 2 ^ 32 }
+    requires sketch { Sketch }
+    requires main { length r.now.steps < 2 ^ 32 }
     ensures { MatchResult result (VerdictOf image.now stubs.now a.now r.now) (IsRefused image.now r.now.start) }
 {
     let machine = Machine::start(alloc, image, &r.start)?;

@@ -1,3 +1,4 @@
+ghost use Rattle.x86_machine.specs.Sketch.{Sketch};
 ghost use Rattle.std.specs.Prelude.{◌≡◌, [], IfOk, MatchResult, drop};
 ghost use Rattle.run_replayer.specs.Record.{AreMade, IsNext, RecordOf, SameStart, next_choice, zero_choice};
 ghost use Rattle.run_replayer.specs.StartRefused.{IsRefused};
@@ -100,6 +101,7 @@ fn make_step(
     machine: &mut Machine,
     choice: Choice,
 ) -> Result<Next, NoMemory>
+    requires { Sketch }
     ensures { IfOk result (λ next. IsNext image.now stubs.now choice machine.old next machine.new) }
 {
     let from = machine.eip();
@@ -127,6 +129,7 @@ fn make_steps(
     choices: &[Choice],
     count: u32,
 ) -> Result<Made, NoMemory>
+    requires { Sketch }
     ensures { IfOk result (λ made. AreMade image.now stubs.now count choices.now machine made.steps made.end) }
 {
     let mut steps = Vec::new(alloc);
@@ -157,6 +160,7 @@ pub fn run_machine(
     start: &StartFile,
     steps: u32,
 ) -> Result<RunRecord, RunFault>
+    requires { Sketch }
     ensures { MatchResult result (RecordOf image.now stubs.now start.now steps) (IsRefused image.now start.now) }
 {
     let machine = Machine::start(alloc, image, start)?;

@@ -27,7 +27,7 @@ module _ (image : Image) (stubs : StatedStubs) (choice : Choice) (m : MachineSta
   abbrev ByExit : Bool → Type 0
   ByExit b = MatchBool b (outcome ≡ exited) (AtName stubs (name_at image m.eip) choice m outcome)
 
-  pub named_step : m.eip ≢ EXIT_PLACE → AtName stubs (name_at image m.eip) choice m outcome → StepBy image stubs choice m outcome
+  named_step : m.eip ≢ EXIT_PLACE → AtName stubs (name_at image m.eip) choice m outcome → StepBy image stubs choice m outcome
   unfolding StepBy
   named_step runs h = subst ByExit (sym (ne_eqb m.eip EXIT_PLACE runs)) h
 
@@ -89,7 +89,7 @@ instructions_fault image stubs m i n at choice kind =
 
 -- ---- imports
 
-pub not_never : (r : Reply) (outcome : StepEnd) → r ≢ Never → unless_never r outcome ≡ outcome
+not_never : (r : Reply) (outcome : StepEnd) → r ≢ Never → unless_never r outcome ≡ outcome
 not_never Anything outcome on = refl
 not_never (Number n) outcome on = refl
 not_never (Block size zeroed may) outcome on = refl

@@ -1,3 +1,4 @@
+pub mod Sketch
 pub mod StepBy
 pub mod Machine
 pub mod Faults

@@ -4,23 +4,14 @@
 // an image under all choices, and `specs/Faults.antt` tells for what an instruction faults.
 #![tactic(auto)]
 
-mod arguments;
-mod calls;
-mod filling;
 mod laws;
 mod machine;
 mod outcome;
-mod refusals;
 mod start_fault;
 mod start_file;
-mod starting;
-mod window;
 
-pub use laws::{imports_have_next_states, instructions_have_next_states, start_files_state_start};
+pub use laws::{imports_have_next_states, instructions_have_next_states};
 pub use machine::Machine;
 pub use outcome::Outcome;
 pub use start_fault::StartFault;
 pub use start_file::StartFile;
-
-#[cfg(test)]
-mod tests;

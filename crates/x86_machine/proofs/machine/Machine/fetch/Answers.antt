@@ -1,0 +1,5 @@
+use Rattle.x86_machine.specs.Sketch.{no}
+use Rattle.x86_machine.proofs.machine.Machine.fetch.Goals as goal
+
+pub unreachable-requires : goal.unreachable-requires
+unreachable-requires c = no c.requires
