@@ -114,7 +114,7 @@ dash_of : (suffix : Option (List ℕ)) → is_named (codes "-") suffix ≡ true 
 dash_of None e = cc
 dash_of (Some name) e = ap Some (same_word name (codes "-") e)
 
-import_text : (suffix : Option (List ℕ)) → spaced (suffix_list suffix) ≡ import_suffix suffix
+pub import_text : (suffix : Option (List ℕ)) → spaced (suffix_list suffix) ≡ import_suffix suffix
 import_text None = refl
 import_text (Some name) = append-nil (space ++ name)
 

@@ -1,7 +1,9 @@
 pub mod Ascending
 pub mod Ascends
+pub mod ClearTexts
 pub mod FieldsTold
 pub mod Orders
+pub mod ReadBack
 pub mod Reading
 pub mod Spelled
 pub mod Told

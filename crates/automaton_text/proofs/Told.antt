@@ -160,7 +160,7 @@ location_by v e ls es last ms t line at suffix kept is h =
 
 -- ---- edges
 
-edge_whole : (e : Edge) → (codes "edge " ++ edge_text e) ++ newline ≡ edge_line e
+pub edge_whole : (e : Edge) → (codes "edge " ++ edge_text e) ++ newline ≡ edge_line e
 unfolding edge_text edge_line
 edge_whole e = simp append_assoc
 
@@ -234,12 +234,12 @@ two_and_one a b c = simp (append_assoc, append-nil)
 three_fields : (a b c : List ℕ) → (a ++ (32 ∷ (b ++ (32 ∷ (c ++ []))))) ++ newline ≡ ((((a ++ space) ++ b) ++ space) ++ c) ++ newline
 three_fields a b c = simp (append_assoc, append-nil)
 
-mark_whole : (at : ℕ) (cause : Cause) (row : Option ℕ) → (codes "open" ++ spaced (hex8 at ∷ cause_text cause ∷ row_list row)) ++ newline ≡ open_line (record { at = at; cause = cause; row = row })
+pub mark_whole : (at : ℕ) (cause : Cause) (row : Option ℕ) → (codes "open" ++ spaced (hex8 at ∷ cause_text cause ∷ row_list row)) ++ newline ≡ open_line (record { at = at; cause = cause; row = row })
 unfolding open_line
 mark_whole at cause None = ap (λ l. codes "open " ++ l) (two_fields (hex8 at) (cause_text cause))
 mark_whole at cause (Some row) = ap (λ l. codes "open " ++ l) (two_and_one (hex8 at) (cause_text cause) (decimal row))
 
-end_whole : (l e o : ℕ) → (codes "end" ++ spaced (decimal l ∷ decimal e ∷ decimal o ∷ [])) ++ newline ≡ end_line l e o
+pub end_whole : (l e o : ℕ) → (codes "end" ++ spaced (decimal l ∷ decimal e ∷ decimal o ∷ [])) ++ newline ≡ end_line l e o
 end_whole l e o = ap (λ x. codes "end " ++ x) (three_fields (decimal l) (decimal e) (decimal o))
 
 module _ (stage : Stage) (v e : ℕ) (ls : List Location) (es : List Edge) (last : List ℕ) (ms : List OpenMark) (t : Reading) (line : List ℕ)

@@ -1,0 +1,4 @@
+use Rattle.automaton_text.proofs.laws.dashes_are_refused.Goals as goal
+
+pub returns : goal.returns
+returns c = ?
