@@ -1,6 +1,7 @@
 pub mod Ascending
 pub mod Ascends
 pub mod ClearTexts
+pub mod Dashes
 pub mod FieldsTold
 pub mod Orders
 pub mod ReadBack

@@ -46,7 +46,7 @@ use Rattle.automaton_text.proofs.Told.{edge_whole, end_whole, mark_whole, readin
 
 -- ---- lists that go on from an element
 
-abbrev goes_on : {X : Type 0} → (X → X → Bool) → Option X → List X → Bool
+abbrev pub goes_on : {X : Type 0} → (X → X → Bool) → Option X → List X → Bool
 goes_on above o [] = true
 goes_on above o (x ∷ xs) = option_map_or (λ l. above l x) o true && goes_on above (Some x) xs
 
@@ -56,11 +56,11 @@ goes_from above x (y ∷ ys) e =
     let parts : (above x y ≡ true) × (ascend above (y ∷ ys) ≡ true) = both (above x y) (ascend above (y ∷ ys)) e in
     and_true (above x y) (goes_on above (Some y) ys) parts.0 (goes_from above y ys parts.1)
 
-goes_from_none : {X : Type 0} (above : X → X → Bool) (xs : List X) → ascend above xs ≡ true → goes_on above None xs ≡ true
+pub goes_from_none : {X : Type 0} (above : X → X → Bool) (xs : List X) → ascend above xs ≡ true → goes_on above None xs ≡ true
 goes_from_none above [] e = refl
 goes_from_none above (x ∷ xs) e = goes_from above x xs e
 
-goes_behind : {X : Type 0} (above : X → X → Bool) (done : List X) (x : X) (xs : List X) → goes_on above (Some x) xs ≡ true → goes_on above (last_of (done ++ x ∷ [])) xs ≡ true
+pub goes_behind : {X : Type 0} (above : X → X → Bool) (done : List X) (x : X) (xs : List X) → goes_on above (Some x) xs ≡ true → goes_on above (last_of (done ++ x ∷ [])) xs ≡ true
 goes_behind above done x xs e = ap (λ o. goes_on above o xs) (last_of_more done x) ∙ e
 
 one_more : {X : Type 0} (done : List X) (x : X) (xs : List X) → (done ++ x ∷ []) ++ xs ≡ done ++ (x ∷ xs)
@@ -71,7 +71,7 @@ one_more done x xs = append_assoc done (x ∷ []) xs
 word_small : (n : ℕ) → is_word n ≡ true → n < 2 ^ 32
 word_small n e = grind (arith, nat_tests)
 
-clear_is : (text : List ℕ) → is_clear text ≡ true → All (λ b. (b == 10) ≡ false) text
+pub clear_is : (text : List ℕ) → is_clear text ≡ true → All (λ b. (b == 10) ≡ false) text
 clear_is text e k d below = not_line (get_or text k d == 10) (AllPass-from_list_all (λ b. not (b == 10)) text e k d below)
   where
     not_line : (t : Bool) → not t ≡ true → t ≡ false
@@ -120,7 +120,7 @@ IsVersionRead v = (version_of (codes "jakstab-automaton " ++ decimal v) ≡ Some
 version_read : (v : ℕ) → is_version v ≡ true → IsVersionRead v
 version_read v e = elim (version_cases v e) [ inl one ↦ subst IsVersionRead (sym one) (version_one, omega arith) | inr two ↦ subst IsVersionRead (sym two) (version_two, omega arith) ]
 
-header_reached : (v : ℕ) → is_version v ≡ true → Reaches automaton_grammar nothing (header_line v) (reading stages.Header v 0 [] [] [] [])
+pub header_reached : (v : ℕ) → is_version v ≡ true → Reaches automaton_grammar nothing (header_line v) (reading stages.Header v 0 [] [] [] [])
 unfolding automaton_step
 header_reached v e =
     let read : IsVersionRead v = version_read v e in
@@ -133,7 +133,7 @@ address_read : (n : ℕ) → is_word n ≡ true → address_fields (hex8 n ∷ [
 unfolding address_fields
 address_read n small = read_as word_of (hex8 n) [] n (λ at fs. no_more at fs) (word_read n (word_small n small))
 
-entry_reached : (v e : ℕ) → is_word e ≡ true → Reaches automaton_grammar (reading stages.Header v 0 [] [] [] []) (entry_line e) (reading stages.Locations v e [] [] [] [])
+pub entry_reached : (v e : ℕ) → is_word e ≡ true → Reaches automaton_grammar (reading stages.Header v 0 [] [] [] []) (entry_line e) (reading stages.Locations v e [] [] [] [])
 unfolding automaton_step
 entry_reached v e small =
     let line : List ℕ = codes "entry " ++ hex8 e in
@@ -153,7 +153,7 @@ suffix_read : (s : Option (List ℕ)) → fits_name s ≡ true → suffix_fields
 suffix_read None fits = refl
 suffix_read (Some name) fits = ap (option_and_then (λ n. no_more (Some n) [])) (ap (λ t. if t then Some name else None) fits)
 
-location_read : (at : ℕ) (s : Option (List ℕ)) → is_word at ≡ true → fits_name s ≡ true → location_fields (hex8 at ∷ suffix_list s) ≡ Some (at, s)
+pub location_read : (at : ℕ) (s : Option (List ℕ)) → is_word at ≡ true → fits_name s ≡ true → location_fields (hex8 at ∷ suffix_list s) ≡ Some (at, s)
 unfolding location_fields
 location_read at s small fits =
     read_as word_of (hex8 at) (suffix_list s) at (λ a fs. option_map (λ suffix. (a, suffix)) (suffix_fields fs)) (word_read at (word_small at small))
@@ -204,7 +204,7 @@ location_line l s text fits = (
   clear_both (codes "loc " ++ hex8 l.at) (suffix_of l) (clear_both (codes "loc ") (hex8 l.at) refl (plain_clear (hex8 l.at) (plain_word l.at))) (ap is_clear text ∙ clear_suffixes s fits),
 )
 
-location_reached : (v e : ℕ) (ls : List Location) (l : Location) → fits_location l ≡ true → has_own_name l ≡ true → is_above ls l.at ≡ true
+pub location_reached : (v e : ℕ) (ls : List Location) (l : Location) → fits_location l ≡ true → has_own_name l ≡ true → is_above ls l.at ≡ true
     → Reaches automaton_grammar (reading stages.Locations v e ls [] [] []) (loc_line l) (reading stages.Locations v e (ls ++ l ∷ []) [] [] [])
 unfolding automaton_step loc_line location_or_later_step location_step
 location_reached v e ls l fits named above =
