@@ -1,5 +1,11 @@
 pub mod Ascending
-pub mod Orders
+pub mod Ascends
+pub mod ClearTexts
+pub mod Dashes
+pub mod FieldsTold
 pub mod Firsts
+pub mod Orders
+pub mod ReadBack
 pub mod Reading
 pub mod Spelled
+pub mod Told

@@ -1,3 +1,5 @@
-pub mod Text
+pub mod Laws
+pub mod Orderly
 pub mod Orders
 pub mod Reading
+pub mod Text

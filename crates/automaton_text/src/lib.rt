@@ -6,6 +6,7 @@
 mod automaton;
 mod causes;
 mod code_text;
+mod laws;
 mod line_fields;
 mod places;
 mod print;
@@ -16,5 +17,6 @@ mod tests;
 mod versions;
 
 pub use automaton::{Automaton, Location, OpenMark, first_marks, sorted_marks};
+pub use laws::{dashes_are_refused, orderly_automata_are_read_back, texts_tell_orderly_automata};
 pub use print::print_automaton;
 pub use reader::read_automaton;

@@ -1,4 +1,9 @@
+ghost use Rattle.std.specs.Prelude.{◌≡◌, IfOk, true};
+ghost use Rattle.automaton_text.specs.Text.{AreSpelled, HaveRowsBy, is_version};
+
 use crate::*;
+use flow_log::{Cause, Edge, Label};
+use memory_map::{Items, Name};
 use std::alloc::{AllocError, Global};
 use std::test::Fail;
 use text_fields::TextFault;
@@ -298,5 +303,79 @@ fn a_whole_text_is_read(rt: HostRuntime) -> Result<(), Fail> {
     assert_eq!(rt; a.locations.len(), 1);
     assert_eq!(rt; a.edges.len(), 1);
     assert_eq!(rt; a.marks.len(), 0);
+    Ok(())
+}
+
+const AT_IMPORT: u32 = 0xF000_0010;
+
+// An import that leads to itself, in version 2.
+fn import_alone(alloc: Global, name: Name) -> Result<Automaton, AllocError>
+    ensures spelled { IfOk result (λ a. AreSpelled a.edges) }
+    ensures version { IfOk result (λ a. is_version a.version ≡ true) }
+    ensures rows { IfOk result (λ a. HaveRowsBy a.version a.marks) }
+{
+    let label = Label::Import(name.copy(alloc)?);
+    let mut edges = Vec::new(alloc);
+    edges.push(Edge {
+        from: AT_IMPORT,
+        to: AT_IMPORT,
+        label,
+    })?;
+    let mut locations = Vec::new(alloc);
+    locations.push(Location {
+        at: AT_IMPORT,
+        name: Some(name),
+    })?;
+    Ok(Automaton {
+        version: 2,
+        entry: AT_IMPORT,
+        locations: Items::from_vec(locations),
+        edges: Items::from_vec(edges),
+        marks: Items::from_vec(Vec::new(alloc)),
+    })
+}
+
+#[test]
+fn what_is_printed_is_read_back(rt: HostRuntime) -> Result<(), Fail> {
+    let name = Name::new(Vec::from_slice(rt.alloc(), b"puts")?).ok_or("no name")?;
+    let a = import_alone(rt.alloc(), name)?;
+    let text = print_automaton(rt.alloc(), &a)?;
+    let want =
+        b"jakstab-automaton 2\nentry F0000010\nloc F0000010 puts\nedge F0000010 F0000010 import puts\nend 1 1 0\n";
+    assert_eq!(rt; text.as_slice(), want.as_slice());
+    let read = read_automaton(rt.alloc(), &text).ok().ok_or("refused")?;
+    assert_eq!(rt; read.version, 2);
+    assert_eq!(rt; read.entry, AT_IMPORT);
+    assert!(rt; read.edges.as_slice() == a.edges.as_slice());
+    assert_eq!(rt; a.as_version_1().version, 1);
+    Ok(())
+}
+
+const fn mark(at: u32, cause: Cause, row: u32) -> OpenMark {
+    OpenMark {
+        at,
+        cause,
+        row: Some(row),
+    }
+}
+
+#[test]
+fn a_location_and_a_cause_keep_their_least_row(rt: HostRuntime) -> Result<(), Fail> {
+    let marks = [
+        mark(2, Cause::Target, 5),
+        mark(1, Cause::Code, 9),
+        mark(2, Cause::Target, 3),
+        mark(1, Cause::Store, 7),
+        mark(2, Cause::Target, 3),
+    ];
+    let first = first_marks(Vec::from_slice(rt.alloc(), &marks)?);
+    let want = [
+        mark(1, Cause::Store, 7),
+        mark(1, Cause::Code, 9),
+        mark(2, Cause::Target, 3),
+    ];
+    assert_eq!(rt; first.as_slice(), want.as_slice());
+    let sorted = sorted_marks(Vec::from_slice(rt.alloc(), &marks)?);
+    assert_eq!(rt; sorted.len(), 4);
     Ok(())
 }

@@ -139,3 +139,23 @@ not_decimal text n small e same =
     let test : is_decimal text ≡ true = plain_decimal text (record { numeral = is.0; short = short }) in
     let never : ⊥ = cc in
     never
+
+number_by : (text : List ℕ) (n : ℕ) (t : Bool) → is_decimal text ≡ t → ◌≡◌ {A = Option ℕ} (cond t (Some (digits_value 10 text)) None) (Some n) → (is_decimal text ≡ true) × (digits_value 10 text ≡ n)
+number_by text n true e h = (e, cc)
+number_by text n false e h = cc
+
+-- a text is that of the number that it writes
+pub decimal_is_text : (text : List ℕ) (n : ℕ) → n < 2 ^ 64 → decimal_number text ≡ Some n → text ≡ decimal n
+unfolding decimal_number
+decimal_is_text text n small h =
+    let is : (is_decimal text ≡ true) × (digits_value 10 text ≡ n) = number_by text n (is_decimal text) refl h in
+    let plain = decimal_plain text is.0 in
+    let least : digits_value 10 text < 2 ^ 64 = omega (arith, is.1) in
+    (reads_decimal text n (Some n) small plain.short ((plain.numeral, least), sym is.1)).0 refl
+
+-- the text of a number is read as that number
+pub decimal_read : (n : ℕ) → n < 2 ^ 64 → decimal_number (decimal n) ≡ Some n
+decimal_read n small =
+    let is : IsNumeral 10 (decimal n) × (digits_value 10 (decimal n) ≡ n) = decimal_value_is (decimal n) n small refl in
+    let short : get_or (decimal n) 0 0 ≡ 48 → length (decimal n) ≤ 1 = λ begins. short_by (decimal n) n small begins refl (length (decimal n)) refl in
+    decimal_number_is (decimal n) (plain_decimal (decimal n) (record { numeral = is.0; short = short })) ∙ ap Some is.1

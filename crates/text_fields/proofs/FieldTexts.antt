@@ -1,0 +1,99 @@
+-- Fields that are read are the texts of what they give, and texts of fields are read as what they are of.
+use Rattle.std.proofs.Common.{◌≡◌, ◌≢◌, ℕ, zero, suc, ◌+◌, ◌*◌, ◌^◌, ◌/◌, ◌%◌, ◌<◌, ◌≤◌, ◌==◌, Bool, true, false, List, [], ◌∷◌, ◌++◌, length, get_or, Option, Some, None, refl, sym, ◌∙◌, ap, subst, arith, append_assoc}
+use Rattle.std.proofs.lemmas.Bool.Decides.{nat_tests}
+use Rattle.std.specs.Prelude.{option_and_then, option_map, if◌then◌else◌}
+use Rattle.text_fields.specs.Hex.{hex2, hex8, hex_bytes, hex_digits, hex_number, hex_text, number_after}
+use Rattle.text_fields.specs.Fields.{byte_of, no_more, then_field, word_of}
+use Rattle.text_fields.proofs.HexFacts.{digits_after, number_back, length-hex_digits}
+
+-- a field was read, and what is behind it
+pub record HasField {A B : Type 0} (form : List ℕ → Option A) (fs : List (List ℕ)) (go : A → List (List ℕ) → Option B) (b : B) : Type 0 where
+  pub value : A
+  pub field : List ℕ
+  pub others : List (List ℕ)
+  pub begins : fs ≡ field ∷ others
+  pub gives : form field ≡ Some value
+  pub after : go value others ≡ Some b
+
+given : {A B : Type 0} (form : List ℕ → Option A) (f : List ℕ) (fs : List (List ℕ)) (go : A → List (List ℕ) → Option B) (b : B) (o : Option A)
+    → form f ≡ o → option_and_then (λ a. go a fs) o ≡ Some b → HasField form (f ∷ fs) go b
+given form f fs go b None e h = cc
+given form f fs go b (Some a) e h = record { value = a; field = f; others = fs; begins = refl; gives = e; after = h }
+
+pub has_field : {A B : Type 0} (form : List ℕ → Option A) (fs : List (List ℕ)) (go : A → List (List ℕ) → Option B) (b : B) → then_field form fs go ≡ Some b → HasField form fs go b
+unfolding then_field
+has_field form [] go b h = cc
+has_field form (f ∷ fs) go b h = given form f fs go b (form f) refl h
+
+pub record IsDone {A : Type 0} (a b : A) (fs : List (List ℕ)) : Type 0 where
+  pub none : fs ≡ []
+  pub same : a ≡ b
+
+done_by : {A : Type 0} (a b : A) (fs : List (List ℕ)) (t : Bool) → (length fs == 0) ≡ t → ◌≡◌ {A = Option A} (if t then Some a else None) (Some b) → IsDone a b fs
+done_by a b [] true e h = record { none = refl; same = cc }
+done_by a b (f ∷ fs) true e h = let never : length (f ∷ fs) ≡ 0 = grind (arith, nat_tests) in absurd (omega (arith, never))
+done_by a b fs false e h = cc
+
+pub is_done : {A : Type 0} (a b : A) (fs : List (List ℕ)) → no_more a fs ≡ Some b → IsDone a b fs
+is_done a b fs h = done_by a b fs (length fs == 0) refl h
+
+number_is : (k : ℕ) (text : List ℕ) (n : ℕ) (t : Bool) → (length text == k) ≡ t → ◌≡◌ {A = Option ℕ} (if t then number_after 0 text else None) (Some n) → text ≡ hex_digits k n
+unfolding hex_digits
+number_is k text n true e h =
+    let long : length text ≡ k = grind (arith, nat_tests) in
+    let all : hex_digits (0 + length text) n ≡ [] ++ text = digits_after 0 0 text n h in
+    let P : ℕ → Type 0 = λ j. hex_digits j n ≡ text in
+    sym (subst P (let e : 0 + length text ≡ k = omega arith in e) all)
+number_is k text n false e h = cc
+
+pub word_is : (field : List ℕ) (n : ℕ) → word_of field ≡ Some n → field ≡ hex8 n
+unfolding hex8
+word_is field n h = number_is 8 field n (length field == 8) refl h
+
+pub byte_is : (field : List ℕ) (n : ℕ) → byte_of field ≡ Some n → field ≡ hex2 n
+unfolding hex2
+byte_is field n h = number_is 2 field n (length field == 2) refl h
+
+number_read : (k n : ℕ) → n < 16 ^ k → hex_number k (hex_digits k n) ≡ Some n
+number_read k n small =
+    let t : (length (hex_digits k n) == k) ≡ true = (let e : length (hex_digits k n) ≡ k = length-hex_digits k n in grind (arith, nat_tests)) in
+    rw t (number_back k n small)
+
+pub word_read : (n : ℕ) → n < 2 ^ 32 → word_of (hex8 n) ≡ Some n
+unfolding hex8
+word_read n small = number_read 8 n (omega arith)
+
+pub byte_read : (n : ℕ) → n < 2 ^ 8 → byte_of (hex2 n) ≡ Some n
+unfolding hex2
+byte_read n small = number_read 2 n (omega arith)
+
+-- ---- bytes
+
+pair_by : (high low : ℕ) (others bytes : List ℕ) (first : Option ℕ) (more : Option (List ℕ)) → number_after 0 (high ∷ low ∷ []) ≡ first → hex_bytes others ≡ more
+    → ((rest : List ℕ) → hex_bytes others ≡ Some rest → others ≡ hex_text rest)
+    → option_and_then (λ b. option_map (λ bs. b ∷ bs) more) first ≡ Some bytes → high ∷ low ∷ others ≡ hex_text bytes
+unfolding hex_text hex2 hex_digits
+pair_by high low others bytes None more e f later h = cc
+pair_by high low others bytes (Some b) None e f later h = cc
+pair_by high low others bytes (Some b) (Some rest) e f later h =
+    let is : b ∷ rest ≡ bytes = cc in
+    let pair : hex_digits (0 + 2) b ≡ [] ++ (high ∷ low ∷ []) = digits_after 0 0 (high ∷ low ∷ []) b e in
+    ap (λ l. high ∷ low ∷ l) (later rest f) ∙ ap (λ l. l ++ hex_text rest) (sym pair) ∙ ap hex_text is
+
+pub bytes_back : (text bytes : List ℕ) → hex_bytes text ≡ Some bytes → text ≡ hex_text bytes
+unfolding hex_text
+bytes_back [] bytes h = (let e : [] ≡ bytes = cc in ap hex_text e)
+bytes_back (high ∷ []) bytes h = cc
+bytes_back (high ∷ low ∷ others) bytes h = pair_by high low others bytes (number_after 0 (high ∷ low ∷ [])) (hex_bytes others) refl refl (λ rest e. bytes_back others rest e) h
+
+pair_read : (b : ℕ) (others : List ℕ) → b < 2 ^ 8 → hex_bytes (hex2 b ++ others) ≡ option_map (λ bytes. b ∷ bytes) (hex_bytes others)
+unfolding hex2 hex_digits
+pair_read b others small =
+    let back : number_after 0 (hex_digits 2 b) ≡ Some b = number_back 2 b (omega arith) in
+    rw back refl
+
+-- the digits of bytes are read as these bytes
+pub bytes_read : (bytes : List ℕ) → ((k d : ℕ) → k < length bytes → get_or bytes k d < 2 ^ 8) → hex_bytes (hex_text bytes) ≡ Some bytes
+unfolding hex_text
+bytes_read [] small = refl
+bytes_read (b ∷ bytes) small = pair_read b (hex_text bytes) (small 0 0 (omega arith)) ∙ ap (option_map (λ more. b ∷ more)) (bytes_read bytes (λ k d below. small (suc k) d (omega arith)))
