@@ -74,8 +74,7 @@ fn held<D: Domain>(alloc: Global, s: &State<D>) -> Result<Vec<(Holder, D)>, NoMe
     ensures { IfOk result (λ pairs. pairs.items ≡ held s.now) }
 {
     let mut pairs = held_registers(alloc, s)?;
-    let facts = s.parts.copy_facts()?;
-    push_facts(&mut pairs, &facts)?;
+    push_facts(&mut pairs, s.parts.facts())?;
     Ok(pairs)
 }
 

@@ -311,8 +311,7 @@ fn flags_text(alloc: Global, t: &Truths) -> Result<String, Fail> {
 // The facts.
 fn facts_text<D: Domain>(alloc: Global, parts: &Parts<D>) -> Result<String, Fail> {
     let mut out = String::new(alloc);
-    let facts = parts.copy_facts()?;
-    for f in &facts {
+    for f in parts.facts() {
         push_between(&mut out, ",")?;
         out.push('[')?;
         push_place(&mut out, f.area, f.low)?;
