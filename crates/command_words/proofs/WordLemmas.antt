@@ -13,7 +13,7 @@ use Rattle.std.proofs.lemmas.Str.{digit_value_digit}
 use Rattle.std.proofs.Math.Nat.{mul-le-mul_left, pow-succ'}
 use Rattle.text_fields.specs.Hex.{digit_number, number_after, hex8}
 use Rattle.text_fields.proofs.HexFacts.{digit_is, reads_hex8, length-hex8}
-use Rattle.command_words.specs.Words.{is_digit, is_number, is_within, number_within, address_of, listing_of}
+use Rattle.command_words.specs.Words.{is_digit, is_number, is_within, number_within, address_of}
 
 and_left : (x y : Bool) → (x && y) ≡ true → x ≡ true
 and_left true y e = refl
@@ -48,12 +48,12 @@ number_is word is =
     }
 
 -- a number that is not read is too great for a limit below 2^32
-pub number_none : (limit : ℕ) (word : List ℕ) → limit < 2 ^ 32 → is_number word ≡ true → SomeIff {T = ℕ} None (IsNumeral 10 word × (length word ≤ 10) × (digits_value 10 word < 2 ^ 32)) (digits_value 10 word) → number_within limit word ≡ None
-number_none limit word small is unread =
-    let P : Bool → Type 0 = λ b. is_within limit (digits_value 10 word) ≡ b → cond (is_number word && b) (Some (digits_value 10 word)) None ≡ None in
-    (elim (is_within limit (digits_value 10 word)) as P [
+pub number_none : (least most : ℕ) (word : List ℕ) → most < 2 ^ 32 → is_number word ≡ true → SomeIff {T = ℕ} None (IsNumeral 10 word × (length word ≤ 10) × (digits_value 10 word < 2 ^ 32)) (digits_value 10 word) → number_within least most word ≡ None
+number_none least most word small is unread =
+    let P : Bool → Type 0 = λ b. is_within least most (digits_value 10 word) ≡ b → cond (is_number word && b) (Some (digits_value 10 word)) None ≡ None in
+    (elim (is_within least most (digits_value 10 word)) as P [
       | true ↦ λ within.
-          let few : digits_value 10 word ≤ limit = leb-true (digits_value 10 word) limit (and_right (nat_le 1 (digits_value 10 word)) (nat_le (digits_value 10 word) limit) within) in
+          let few : digits_value 10 word ≤ most = leb-true (digits_value 10 word) most (and_right (nat_le least (digits_value 10 word)) (nat_le (digits_value 10 word) most) within) in
           let number : IsShortNumeral word = number_is word is in
           absurd (unread (number.numeral, number.short, omega arith))
       | false ↦ λ without. rw is refl
@@ -108,17 +108,3 @@ address_is word r within reads =
         let Q : ℕ → Type 0 = λ k. (k == 8) ≡ false in
         let never : (8 == 8) ≡ false = subst Q size e in
         cc
-
--- other than three words are no listing
-not_three : (words : List (List ℕ)) → (length words ≡ 3 → ⊥) → listing_of words ≡ None
-not_three [] other = refl
-not_three (a ∷ []) other = refl
-not_three (a ∷ b ∷ []) other = refl
-not_three (a ∷ b ∷ c ∷ []) other = absurd (other refl)
-not_three (a ∷ b ∷ c ∷ d ∷ words) other = refl
-
-pub not_three_among : {S : Type 0} (text : S → List ℕ) (front back : List S) → (length front + length back ≡ 3 → ⊥) → listing_of (map text front ++ map text back) ≡ None
-not_three_among text front back other =
-    let size : length (map text front ++ map text back) ≡ length front + length back =
-    length-append (map text front) (map text back) ∙ ap (λ (n : ℕ). n + length (map text back)) (length-map front text) ∙ ap (λ (n : ℕ). length front + n) (length-map back text) in
-    not_three (map text front ++ map text back) (λ e. other (sym size ∙ e))

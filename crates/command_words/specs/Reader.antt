@@ -1,16 +1,21 @@
 -- What `clap` is told of a command, and what it is to read.
-use Rattle.std.specs.Prelude.{◌≡◌, Bool, true, false, List, [], ◌∷◌, map, Option, None, Some, codes, unwrap_or, bytes_eq}
+use Rattle.std.specs.Prelude.{◌≡◌, Bool, true, false, List, [], ◌∷◌, map, Option, None, Some, codes, unwrap_or, bytes_eq, Result, MatchResult, option_map, option_and_then}
 use Rattle.std.specs.List.{list_any}
 use Rattle.clap.specs.Walk.{Row, Rule, Text, all_of}
 use Rattle.clap.specs.Simple.{App, new_rule, new_shape}
 use Rattle.clap.specs.declared.builder.action.ArgAction.TheVariants.{Append, Set}
 use Rattle.clap.specs.declared.builder.value_parser.ValueParser.TheVariants as vp
-use Rattle.std.specs.Prelude.{Result, MatchResult, option_map}
-use Rattle.command_words.specs.declared.task.Task.TheVariants.{Recover, List as ListImage}
-use Rattle.command_words.specs.declared.words.Asked.{Asked}
+use Rattle.demo_images.specs.Demo.{MOST_BLOCKS}
+use Rattle.command_words.specs.declared.task.Options.{Options}
+use Rattle.command_words.specs.declared.task.TextVersion.{TextVersion}
+use Rattle.command_words.specs.declared.words.ThreeWords.{ThreeWords as ThreeWordsGiven}
+use Rattle.command_words.specs.declared.task.Task.TheVariants as tasks
+use Rattle.command_words.specs.declared.task.Task.{Task as TaskGiven}
+use Rattle.command_words.specs.declared.task.Asked.{Asked}
+use Rattle.command_words.specs.declared.task.Asked.TheVariants as asked
 use Rattle.command_words.specs.declared.words.WordsFault.{WordsFault}
 use Rattle.command_words.specs.declared.words.WordsFault.TheVariants.{Usage}
-use Rattle.command_words.specs.Words.{Piece, Command, dashed, values_of, is_refused, named_command, asked_with, options_with, number_given, domain_given, file_given, only_name, K_DEFAULT, K_LIMIT, BUDGET_DEFAULT, BUDGET_LIMIT}
+use Rattle.command_words.specs.Words.{Piece, Task, Recover, ListImage, Decode, Run, Replay, Command, Demo, dashed, values_of, is_refused, on_image, asked_with, recover_with, demo_with, options_with, version_numbered, number_given, number_within, domain_given, file_given, only_word, ThreeWords, three_words, decoding, running, replaying, K_DEFAULT, K_LIMIT, BUDGET_DEFAULT, BUDGET_LIMIT}
 
 -- the id of the positional words
 abbrev pub WORDS : Text
@@ -43,21 +48,53 @@ pub record IsRead (options : List Text) (given : List Piece) (rows : List Row) :
   pub words : listed WORDS rows ≡ values_of None given
   pub named : (name : Text) → is_known name options ≡ true → listed name rows ≡ values_of (Some (dashed name)) given
 
--- what `recover` makes of the rows
-abbrev pub recover_read : List Row → Option Command
-recover_read rows =
-    asked_with (only_name (listed WORDS rows)) (file_given (listed (codes "stubs") rows))
-    (option_map Recover (options_with
+-- the options of an analysis in the rows
+abbrev pub options_read : List Row → Option Options
+options_read rows =
+    options_with
     (number_given K_DEFAULT K_LIMIT (listed (codes "k") rows))
     (number_given BUDGET_DEFAULT BUDGET_LIMIT (listed (codes "budget") rows))
-    (domain_given (listed (codes "domain") rows))))
+    (domain_given (listed (codes "domain") rows))
+
+abbrev pub stubs_read : List Row → Option (Option Text)
+stubs_read rows = file_given (listed (codes "stubs") rows)
+
+abbrev pub version_read : List Row → Option TextVersion
+version_read rows = option_map version_numbered (number_given 2 2 (listed (codes "text") rows))
+
+-- what each command makes of the rows
+abbrev pub recover_read : List Row → Option Command
+recover_read rows = asked_with (only_word (listed WORDS rows)) (stubs_read rows) (recover_with (options_read rows) (version_read rows))
 
 abbrev pub list_read : List Row → Option Command
-list_read rows = asked_with (only_name (listed WORDS rows)) (file_given (listed (codes "stubs") rows)) (Some ListImage)
+list_read rows = asked_with (only_word (listed WORDS rows)) (stubs_read rows) (Some ListImage)
+
+abbrev pub decode_read : List Row → Option Command
+decode_read rows = option_and_then decoding (three_words (listed WORDS rows))
+
+abbrev pub run_read : List Row → Option Command
+run_read rows = option_and_then (λ stubs. option_and_then (running stubs) (three_words (listed WORDS rows))) (stubs_read rows)
+
+abbrev pub replay_read : List Row → Option Command
+replay_read rows = option_and_then (λ stubs. option_map (replaying stubs) (three_words (listed WORDS rows))) (stubs_read rows)
+
+abbrev pub demo_read : List Row → Option Command
+demo_read rows = demo_with (option_and_then (number_within 0 MOST_BLOCKS) (only_word (listed WORDS rows))) (options_read rows)
+
+abbrev pub task_of : TaskGiven → Task
+task_of (tasks.Recover options version) = Recover options version
+task_of tasks.List = ListImage
+task_of (tasks.Decode address count) = Decode address count
+task_of (tasks.Run start steps) = Run start.now steps
+task_of (tasks.Replay automaton taken) = Replay automaton.now taken.now
+
+abbrev pub three_of : ThreeWordsGiven → ThreeWords
+three_of words = record { first = words.first.now; second = words.second.now; third = words.third.now }
 
 abbrev pub asked_of : Asked → Command
-asked_of asked = named_command asked.image.now (option_map (λ s. s.now) asked.stubs) asked.task
+asked_of (asked.OnImage command) = on_image command.image.now (option_map (λ s. s.now) command.stubs) (task_of command.task)
+asked_of (asked.Demo blocks options) = Demo blocks options
 
 -- an answer is the command, a refusal comes only where there is none, and memory may be wanting at any words
 abbrev pub Answers : Result Asked WordsFault → Option Command → Type 0
-Answers result wanted = MatchResult result (λ asked. wanted ≡ Some (asked_of asked)) (λ fault. fault ≡ Usage → wanted ≡ None)
+Answers result wanted = MatchResult result (λ a. wanted ≡ Some (asked_of a)) (λ fault. fault ≡ Usage → wanted ≡ None)

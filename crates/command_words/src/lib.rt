@@ -9,5 +9,5 @@ mod task;
 mod tests;
 mod words;
 
-pub use task::{DomainName, Options, Task};
-pub use words::{Asked, WordsFault, command};
+pub use task::{Asked, DomainName, ImageCommand, Options, Task, TextVersion};
+pub use words::{WordsFault, command};

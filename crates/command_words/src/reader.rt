@@ -1,7 +1,7 @@
 ghost use Rattle.std.specs.Prelude.{◌≡◌, [], ◌∷◌, ℕ, List, true, false, IfOk, MatchResult, codes, drop, map, string_bytes};
 ghost use Rattle.clap.specs.Words.{app_of, found_of, is_simple_and_free, rows_of, rule_of, with_rule};
 ghost use Rattle.command_words.specs.Given.{IsGiven};
-ghost use Rattle.command_words.specs.Words.{LIST_OPTIONS, RECOVER_OPTIONS, all_pieces, is_refused};
+ghost use Rattle.command_words.specs.Words.{DEMO_OPTIONS, RECOVER_OPTIONS, STUBS_OPTION, all_pieces, is_refused};
 ghost use Rattle.command_words.specs.Reader.{IsRead, WORDS, is_known, listed, option_rule, reader, words_rule};
 
 use crate::words::WordsFault;
@@ -40,11 +40,11 @@ pub fn decode_reader<'a>(alloc: Global) -> Result<Command<'a>, AllocError>
         .arg(positional_words(alloc))
 }
 
-// `list`, which may have stubs.
-pub fn list_reader<'a>(alloc: Global) -> Result<Command<'a>, AllocError>
-    ensures { IfOk result (λ c. app_of c ≡ reader (codes "list") LIST_OPTIONS) }
+// A command on an image, which may have stubs and has no other option.
+pub fn image_reader<'a>(alloc: Global, name: &'a str) -> Result<Command<'a>, AllocError>
+    ensures { IfOk result (λ c. app_of c ≡ reader name.now STUBS_OPTION) }
 {
-    Command::new(alloc, "list")
+    Command::new(alloc, name)
         .disable_help_flag(true)
         .arg(positional_words(alloc))?
         .arg(option(alloc, "stubs"))
@@ -54,10 +54,17 @@ pub fn list_reader<'a>(alloc: Global) -> Result<Command<'a>, AllocError>
 pub fn recover_reader<'a>(alloc: Global) -> Result<Command<'a>, AllocError>
     ensures { IfOk result (λ c. app_of c ≡ reader (codes "recover") RECOVER_OPTIONS) }
 {
-    let command = Command::new(alloc, "recover")
+    let command = image_reader(alloc, "recover")?;
+    with_limits(alloc, command)?.arg(option(alloc, "text"))
+}
+
+// `demo` with its options.
+pub fn demo_reader<'a>(alloc: Global) -> Result<Command<'a>, AllocError>
+    ensures { IfOk result (λ c. app_of c ≡ reader (codes "demo") DEMO_OPTIONS) }
+{
+    let command = Command::new(alloc, "demo")
         .disable_help_flag(true)
-        .arg(positional_words(alloc))?
-        .arg(option(alloc, "stubs"))?;
+        .arg(positional_words(alloc))?;
     with_limits(alloc, command)
 }
 

@@ -1,54 +1,113 @@
-use crate::{Asked, DomainName, Options, Task, WordsFault, command};
+use crate::{Asked, DomainName, Options, Task, TextVersion, WordsFault, command};
+use std::alloc::{AllocError, Global};
 use std::test::Fail;
 
-// The words that are a command, each with the image and the stub file that it names, or `-` for none.
-const ACCEPTED: [(&str, &str, &str); 31] = [
-    ("recover a", "a", "-"),
-    ("recover --k 3 a --budget=7 --domain flat", "a", "-"),
-    ("recover a --k 1 --budget 1 --domain bounded", "a", "-"),
-    ("recover --k=1024 --budget=1000000 a", "a", "-"),
-    ("recover --k 0000000003 a", "a", "-"),
-    ("recover --budget 0001000000 a", "a", "-"),
-    ("recover -- -a", "-a", "-"),
-    ("recover -- --k", "--k", "-"),
-    ("recover -", "-", "-"),
-    ("recover --k 3 -", "-", "-"),
-    ("recover a --", "a", "-"),
-    ("recover -- --", "--", "-"),
-    ("recover --k 3 -- a", "a", "-"),
-    ("recover --k=3 -- a", "a", "-"),
-    ("recover recover", "recover", "-"),
-    ("recover a --stubs b", "a", "b"),
-    ("recover --stubs=b a", "a", "b"),
-    ("recover --k 3 --stubs=-b a --budget 4", "a", "-b"),
-    ("recover --stubs b -- --stubs", "--stubs", "b"),
-    ("recover --stubs=a=b a", "a", "a=b"),
-    ("list a", "a", "-"),
-    ("list a --stubs=b", "a", "b"),
-    ("list --stubs b a", "a", "b"),
-    ("list --stubs - a", "a", "-"),
-    ("list --stubs=-b a", "a", "-b"),
-    ("list --stubs=a=b a", "a", "a=b"),
-    ("list --stubs=-- a", "a", "--"),
-    ("list --stubs b -- --stubs", "--stubs", "b"),
-    ("decode a 00000000 1", "a", "-"),
-    ("decode a -- FFFFFFFF 100000", "a", "-"),
-    ("decode -- -a 0000000f 1", "-a", "-"),
+// The words that are a command, each with what they ask: the command, the files and what is given to it, with `-` for no stub file.
+const ACCEPTED: [(&str, &str); 53] = [
+    ("recover a", "recover a - 32 100000 bounded 2"),
+    (
+        "recover --k 3 a --budget=7 --domain flat",
+        "recover a - 3 7 flat 2",
+    ),
+    (
+        "recover a --k 1 --budget 1 --domain bounded",
+        "recover a - 1 1 bounded 2",
+    ),
+    (
+        "recover --k=1024 --budget=1000000 a",
+        "recover a - 1024 1000000 bounded 2",
+    ),
+    ("recover --k 0000000003 a", "recover a - 3 100000 bounded 2"),
+    (
+        "recover --budget 0001000000 a",
+        "recover a - 32 1000000 bounded 2",
+    ),
+    (
+        "recover --domain=interval a",
+        "recover a - 32 100000 interval 2",
+    ),
+    (
+        "recover --domain interval --text 1 a",
+        "recover a - 32 100000 interval 1",
+    ),
+    ("recover --text 2 a", "recover a - 32 100000 bounded 2"),
+    ("recover a --text=01", "recover a - 32 100000 bounded 1"),
+    (
+        "recover --text 0000000002 -- a",
+        "recover a - 32 100000 bounded 2",
+    ),
+    ("recover -- -a", "recover -a - 32 100000 bounded 2"),
+    ("recover -- --k", "recover --k - 32 100000 bounded 2"),
+    ("recover -", "recover - - 32 100000 bounded 2"),
+    ("recover --k 3 -", "recover - - 3 100000 bounded 2"),
+    ("recover a --", "recover a - 32 100000 bounded 2"),
+    ("recover -- --", "recover -- - 32 100000 bounded 2"),
+    ("recover --k 3 -- a", "recover a - 3 100000 bounded 2"),
+    ("recover --k=3 -- a", "recover a - 3 100000 bounded 2"),
+    ("recover recover", "recover recover - 32 100000 bounded 2"),
+    ("recover a --stubs b", "recover a b 32 100000 bounded 2"),
+    ("recover --stubs=b a", "recover a b 32 100000 bounded 2"),
+    (
+        "recover --k 3 --stubs=-b a --budget 4",
+        "recover a -b 3 4 bounded 2",
+    ),
+    (
+        "recover --stubs b -- --stubs",
+        "recover --stubs b 32 100000 bounded 2",
+    ),
+    ("recover --stubs=a=b a", "recover a a=b 32 100000 bounded 2"),
+    ("list a", "list a -"),
+    ("list a --stubs=b", "list a b"),
+    ("list --stubs b a", "list a b"),
+    ("list --stubs - a", "list a -"),
+    ("list --stubs=-b a", "list a -b"),
+    ("list --stubs=-- a", "list a --"),
+    ("list --stubs b -- --stubs", "list --stubs b"),
+    ("decode a 00000000 1", "decode a - 0 1"),
+    (
+        "decode a -- FFFFFFFF 100000",
+        "decode a - 4294967295 100000",
+    ),
+    ("decode -- -a 0000000f 0000000001", "decode -a - 15 1"),
+    ("run a b 0", "run a - b 0"),
+    ("run a b 1000000", "run a - b 1000000"),
+    ("run a b 0000000007 --stubs c", "run a c b 7"),
+    ("run --stubs=c a b 10", "run a c b 10"),
+    ("run a --stubs c b 10", "run a c b 10"),
+    ("run a -- -b 10", "run a - -b 10"),
+    ("run - - 1", "run - - - 1"),
+    ("run run run 1", "run run - run 1"),
+    ("replay a b c", "replay a - b c"),
+    ("replay a b --stubs d c", "replay a d b c"),
+    ("replay --stubs=d -- a -b --stubs", "replay a d -b --stubs"),
+    ("replay a a a", "replay a - a a"),
+    ("replay - - -", "replay - - - -"),
+    ("demo 0", "demo 0 32 100000 bounded"),
+    ("demo 2000", "demo 2000 32 100000 bounded"),
+    ("demo 02000 --k 1", "demo 2000 1 100000 bounded"),
+    ("demo --domain=flat --budget 5 -- 3", "demo 3 32 5 flat"),
+    (
+        "demo --domain interval 1 --k=1024",
+        "demo 1 1024 100000 interval",
+    ),
 ];
 
 // Words that are none.
-const REFUSED: [&str; 65] = [
+const REFUSED: [&str; 111] = [
+    "",
     "recover",
     "recover a b",
     "recover -a",
     "recover -- a b",
     "recover a -- b",
     "recover --",
+    "recover  a",
     "recover --k=3 --k=3 a",
     "recover --k 3 --k 3 a",
     "recover --k 3 a --k=3",
     "recover --budget 3 --budget 3 a",
     "recover --domain flat --domain flat a",
+    "recover --text 1 --text=1 a",
     "recover --k= a",
     "recover --k -- a",
     "recover --k a",
@@ -73,14 +132,18 @@ const REFUSED: [&str; 65] = [
     "recover --K 3 a",
     "recover -k 3 a",
     "recover -k3 a",
-    "recover --domain interval a",
+    "recover --domain intervals a",
     "recover --domain Flat a",
     "recover --domain= a",
+    "recover --text 0 a",
+    "recover --text 3 a",
+    "recover --text= a",
+    "recover --text one a",
+    "recover a --text",
     "recover --stubs b --stubs b a",
     "recover --stubs= a",
     "recover --stubs -b a",
     "recover a --stubs",
-    "recover --text 1 a",
     "recover --help",
     "recover --help a",
     "recover -h",
@@ -95,7 +158,11 @@ const REFUSED: [&str; 65] = [
     "list --stubs= a",
     "list --stubs -b a",
     "list --k 3 a",
+    "list --text 1 a",
     "help",
+    "Recover a",
+    "recovers a",
+    "--stubs b list a",
     "decode a 00000000",
     "decode a 00000000 1 2",
     "decode a 0000000 1",
@@ -103,70 +170,125 @@ const REFUSED: [&str; 65] = [
     "decode a 00000000 0",
     "decode a 00000000 100001",
     "decode --k=3 a 00000000 1",
+    "decode --stubs b a 00000000 1",
+    "run",
+    "run a",
+    "run a b",
+    "run a b 1 2",
+    "run a b 1000001",
+    "run a b 4294967296",
+    "run a b -1",
+    "run a b 1x",
+    "run a b 00000000001",
+    "run a b 1 --k 3",
+    "run a b 1 --text 1",
+    "run a b 1 --stubs",
+    "run a b 1 --stubs c --stubs c",
+    "run a -b 1",
+    "replay",
+    "replay a b",
+    "replay a b c d",
+    "replay a b -c",
+    "replay a b c --k 3",
+    "replay a b c --stubs=",
+    "replay a b c --stubs d --stubs e",
+    "demo",
+    "demo 2001",
+    "demo 1 2",
+    "demo -1",
+    "demo a",
+    "demo 00000000000",
+    "demo 9999999999",
+    "demo 1 --stubs b",
+    "demo 1 --text 1",
+    "demo 1 --k 0",
+    "demo 1 --budget 1000001",
+    "demo 1 --domain none",
+    "demo -- 1 1",
 ];
 
-fn read<'a>(alloc: std::alloc::Global, words: &'a [String]) -> Result<Asked<'a>, WordsFault> {
-    command(alloc, words)
+fn domain_word(domain: DomainName) -> &'static str {
+    match domain {
+        DomainName::Flat => "flat",
+        DomainName::Bounded => "bounded",
+        DomainName::Interval => "interval",
+    }
+}
+
+fn version_word(version: TextVersion) -> &'static str {
+    match version {
+        TextVersion::First => "1",
+        TextVersion::Second => "2",
+    }
+}
+
+fn options_told(alloc: Global, options: Options) -> Result<String, AllocError> {
+    let domain = domain_word(options.domain);
+    format!(in alloc; "{} {} {domain}", options.k, options.budget)
+}
+
+fn task_told(alloc: Global, files: &str, task: Task) -> Result<String, AllocError> {
+    match task {
+        Task::Recover { options, version } => {
+            let told = options_told(alloc, options)?;
+            format!(in alloc; "recover {files} {told} {}", version_word(version))
+        }
+        Task::List => format!(in alloc; "list {files}"),
+        Task::Decode { address, count } => format!(in alloc; "decode {files} {address} {count}"),
+        Task::Run { start, steps } => format!(in alloc; "run {files} {start} {steps}"),
+        Task::Replay { automaton, record } => {
+            format!(in alloc; "replay {files} {automaton} {record}")
+        }
+    }
+}
+
+// What is asked, in words.
+fn told(alloc: Global, asked: Asked) -> Result<String, AllocError> {
+    match asked {
+        Asked::OnImage(command) => {
+            let stubs = command.stubs.unwrap_or("-");
+            let files = format!(in alloc; "{} {stubs}", command.image)?;
+            task_told(alloc, &files, command.task)
+        }
+        Asked::Demo { blocks, options } => {
+            let told = options_told(alloc, options)?;
+            format!(in alloc; "demo {blocks} {told}")
+        }
+    }
+}
+
+fn split(alloc: Global, line: &str) -> Result<Vec<String>, AllocError> {
+    let mut words = Vec::new(alloc);
+    for word in line.split(' ') {
+        words.push(word.to_string(alloc)?)?;
+    }
+    Ok(words)
 }
 
 #[test]
-fn words_are_a_command_or_refused(rt: HostRuntime) -> Result<(), Fail> {
+fn words_are_a_command(rt: HostRuntime) -> Result<(), Fail> {
     let alloc = rt.alloc();
-    for (line, image, stubs) in ACCEPTED {
-        let mut words = Vec::new(alloc);
-        for word in line.split(' ') {
-            words.push(word.to_string(alloc)?)?;
+    for (line, want) in ACCEPTED {
+        let words = split(alloc, line)?;
+        match command(alloc, &words) {
+            Ok(asked) => {
+                let got = told(alloc, asked)?;
+                assert_eq!(rt; got.as_str(), want, "{line}");
+            }
+            Err(_) => assert!(rt; false, "{line}"),
         }
-        let asked = read(alloc, &words).ok();
-        assert!(rt;
-            matches!(&asked, Some(a) if a.image == image && a.stubs.unwrap_or("-") == stubs),
-            "{line}"
-        );
     }
-    for line in REFUSED {
-        let mut words = Vec::new(alloc);
-        for word in line.split(' ') {
-            words.push(word.to_string(alloc)?)?;
-        }
-        let refused = matches!(read(alloc, &words), Err(WordsFault::Usage));
-        assert!(rt; refused, "{line}");
-    }
-    assert!(rt; matches!(read(alloc, &[]), Err(WordsFault::Usage)));
     Ok(())
 }
 
 #[test]
-fn options_have_their_values_and_defaults(rt: HostRuntime) -> Result<(), Fail> {
+fn other_words_are_refused(rt: HostRuntime) -> Result<(), Fail> {
     let alloc = rt.alloc();
-    for (line, k, budget, flat) in [
-        ("recover a", 32, 100_000, false),
-        ("recover --k 3 a --budget=7 --domain flat", 3, 7, true),
-        ("recover --domain=bounded a", 32, 100_000, false),
-    ] {
-        let mut words = Vec::new(alloc);
-        for word in line.split(' ') {
-            words.push(word.to_string(alloc)?)?;
-        }
-        let asked = read(alloc, &words).ok();
-        let Some(
-            Asked {
-                task: Task::Recover(
-                    Options {
-                        k: got_k,
-                        budget: got_budget,
-                        domain,
-                    },
-                ),
-                ..
-            },
-        ) = asked
-        else {
-            assert!(rt; false, "{line}");
-            continue;
-        };
-        assert_eq!(rt; got_k, k, "{line}");
-        assert_eq!(rt; got_budget, budget, "{line}");
-        assert_eq!(rt; matches!(domain, DomainName::Flat), flat, "{line}");
+    for line in REFUSED {
+        let words = split(alloc, line)?;
+        let refused = matches!(command(alloc, &words), Err(WordsFault::Usage));
+        assert!(rt; refused, "{line}");
     }
+    assert!(rt; matches!(command(alloc, &[]), Err(WordsFault::Usage)));
     Ok(())
 }

@@ -1,13 +1,16 @@
 ghost use Rattle.std.specs.Prelude.{◌≡◌, ◌≤◌, ◌<◌, ◌+◌, [], ◌∷◌, List, ℕ, length, map, drop, option_map, string_bytes, codes, Some, None, MatchResult};
 ghost use Rattle.std.specs.List.{list_all};
 ghost use Rattle.clap.specs.Words.{found_of, rows_of};
-ghost use Rattle.command_words.specs.Words.{command_of, list_of, file_given, recover_of, decode_of, listing_of, address_of, number_within, is_digit, is_number, number_given, domain_given, domain_named, only_name, file_name};
+ghost use Rattle.command_words.specs.Words.{command_of, list_of, file_given, recover_of, decode_of, run_of, replay_of, demo_of, address_of, number_within, is_digit, is_number, number_given, domain_given, domain_named, only_word, three_words};
 ghost use Rattle.command_words.specs.Given.{IsGiven};
-ghost use Rattle.command_words.specs.Reader.{WORDS, listed, recover_read, list_read, asked_of, Answers};
+ghost use Rattle.command_words.specs.Reader.{WORDS, listed, options_read, version_read, recover_read, list_read, decode_read, run_read, replay_read, demo_read, three_of, asked_of, Answers};
 
-use crate::reader::{Given, decode_reader, given_under, list_reader, read, recover_reader};
-use crate::task::{DomainName, Options, Task};
+use crate::reader::{
+    Given, decode_reader, demo_reader, given_under, image_reader, read, recover_reader,
+};
+use crate::task::{Asked, DomainName, ImageCommand, Options, Task, TextVersion};
 use clap::ArgMatches;
+use demo_images::MOST_BLOCKS;
 use std::alloc::Global;
 use text_fields::{parse_hex8_any_case, parse_number};
 
@@ -20,14 +23,6 @@ pub enum WordsFault {
     Memory,
 }
 
-/// A command: the names of its image and of its stub file, where it takes one, and what it does with the image.
-#[derive(Clone, Copy)]
-pub struct Asked<'a> {
-    pub image: &'a str,
-    pub stubs: Option<&'a str>,
-    pub task: Task,
-}
-
 /// `--k` where the words do not say, and at most.
 const K: u32 = 32;
 
@@ -38,8 +33,14 @@ const BUDGET: u32 = 100_000;
 
 const BUDGET_LIMIT: u32 = 1_000_000;
 
+/// The number of `--text` where the words do not say, and at most.
+const TEXT: u32 = 2;
+
 /// The count of `decode`, at most.
 const COUNT_LIMIT: u32 = 100_000;
+
+/// The steps of `run`, at most.
+const STEPS_LIMIT: u32 = 1_000_000;
 
 /// The command that the words behind the program's name are: the names of its files, and what it does with them.
 /// `Usage` comes only where they are no command; want of memory may come at any words.
@@ -52,6 +53,9 @@ pub fn command<'a>(alloc: Global, words: &'a [String]) -> Result<Asked<'a>, Word
             "recover" => recover_words(alloc, words),
             "list" => list_words(alloc, words),
             "decode" => decode_words(alloc, words),
+            "run" => run_words(alloc, words),
+            "replay" => replay_words(alloc, words),
+            "demo" => demo_words(alloc, words),
             _ => Err(WordsFault::Usage),
         },
     }
@@ -74,23 +78,22 @@ fn recover_words<'a>(alloc: Global, words: &'a [String]) -> Result<Asked<'a>, Wo
 fn recover_given<'a>(matches: &ArgMatches<'a>) -> Option<Asked<'a>>
     ensures { option_map asked_of result ≡ recover_read (rows_of (found_of matches.now)) }
 {
-    let image = only_name(given_under(matches, "words"))?;
+    let image = only_word(given_under(matches, "words"))?;
     let stubs = file_given(given_under(matches, "stubs"))?;
-    let k = number_given(given_under(matches, "k"), K, K_LIMIT)?;
-    let budget = number_given(given_under(matches, "budget"), BUDGET, BUDGET_LIMIT)?;
-    let domain = domain_given(given_under(matches, "domain"))?;
-    Some(Asked {
+    let options = options_given(matches)?;
+    let version = version_given(matches)?;
+    Some(Asked::OnImage(ImageCommand {
         image,
         stubs,
-        task: Task::Recover(Options { k, budget, domain }),
-    })
+        task: Task::Recover { options, version },
+    }))
 }
 
 // The command `list IMAGE`.
 fn list_words<'a>(alloc: Global, words: &'a [String]) -> Result<Asked<'a>, WordsFault>
     ensures { Answers result (list_of (drop 1 (map string_bytes words.now))) }
 {
-    let Ok(command) = list_reader(alloc) else {
+    let Ok(command) = image_reader(alloc, "list") else {
         return Err(WordsFault::Memory);
     };
     match read(command, words) {
@@ -103,13 +106,13 @@ fn list_words<'a>(alloc: Global, words: &'a [String]) -> Result<Asked<'a>, Words
 fn list_given<'a>(matches: &ArgMatches<'a>) -> Option<Asked<'a>>
     ensures { option_map asked_of result ≡ list_read (rows_of (found_of matches.now)) }
 {
-    let image = only_name(given_under(matches, "words"))?;
+    let image = only_word(given_under(matches, "words"))?;
     let stubs = file_given(given_under(matches, "stubs"))?;
-    Some(Asked {
+    Some(Asked::OnImage(ImageCommand {
         image,
         stubs,
         task: Task::List,
-    })
+    }))
 }
 
 // The command `decode IMAGE ADDRESS COUNT`.
@@ -120,56 +123,169 @@ fn decode_words<'a>(alloc: Global, words: &'a [String]) -> Result<Asked<'a>, Wor
         return Err(WordsFault::Memory);
     };
     match read(command, words) {
-        Ok(matches) => listing_given(&matches).ok_or(WordsFault::Usage),
+        Ok(matches) => decode_given(&matches).ok_or(WordsFault::Usage),
         Err(fault) => Err(fault),
     }
 }
 
 // What was read of the words of `decode`.
-fn listing_given<'a>(matches: &ArgMatches<'a>) -> Option<Asked<'a>>
-    ensures { option_map asked_of result ≡ listing_of (listed WORDS (rows_of (found_of matches.now))) }
+fn decode_given<'a>(matches: &ArgMatches<'a>) -> Option<Asked<'a>>
+    ensures { option_map asked_of result ≡ decode_read (rows_of (found_of matches.now)) }
+{
+    let words = three_words(matches)?;
+    let address = address_of(words.second.as_bytes())?;
+    let count = number_within(words.third.as_bytes(), 1, COUNT_LIMIT)?;
+    Some(Asked::OnImage(ImageCommand {
+        image: words.first,
+        stubs: None,
+        task: Task::Decode { address, count },
+    }))
+}
+
+// The command `run IMAGE START STEPS`.
+fn run_words<'a>(alloc: Global, words: &'a [String]) -> Result<Asked<'a>, WordsFault>
+    ensures { Answers result (run_of (drop 1 (map string_bytes words.now))) }
+{
+    let Ok(command) = image_reader(alloc, "run") else {
+        return Err(WordsFault::Memory);
+    };
+    match read(command, words) {
+        Ok(matches) => run_given(&matches).ok_or(WordsFault::Usage),
+        Err(fault) => Err(fault),
+    }
+}
+
+// What was read of the words of `run`.
+fn run_given<'a>(matches: &ArgMatches<'a>) -> Option<Asked<'a>>
+    ensures { option_map asked_of result ≡ run_read (rows_of (found_of matches.now)) }
+{
+    let stubs = file_given(given_under(matches, "stubs"))?;
+    let words = three_words(matches)?;
+    let steps = number_within(words.third.as_bytes(), 0, STEPS_LIMIT)?;
+    Some(Asked::OnImage(ImageCommand {
+        image: words.first,
+        stubs,
+        task: Task::Run {
+            start: words.second,
+            steps,
+        },
+    }))
+}
+
+// The command `replay IMAGE AUTOMATON RECORD`.
+fn replay_words<'a>(alloc: Global, words: &'a [String]) -> Result<Asked<'a>, WordsFault>
+    ensures { Answers result (replay_of (drop 1 (map string_bytes words.now))) }
+{
+    let Ok(command) = image_reader(alloc, "replay") else {
+        return Err(WordsFault::Memory);
+    };
+    match read(command, words) {
+        Ok(matches) => replay_given(&matches).ok_or(WordsFault::Usage),
+        Err(fault) => Err(fault),
+    }
+}
+
+// What was read of the words of `replay`.
+fn replay_given<'a>(matches: &ArgMatches<'a>) -> Option<Asked<'a>>
+    ensures { option_map asked_of result ≡ replay_read (rows_of (found_of matches.now)) }
+{
+    let stubs = file_given(given_under(matches, "stubs"))?;
+    let words = three_words(matches)?;
+    Some(Asked::OnImage(ImageCommand {
+        image: words.first,
+        stubs,
+        task: Task::Replay {
+            automaton: words.second,
+            record: words.third,
+        },
+    }))
+}
+
+// The command `demo N` with its options.
+fn demo_words<'a>(alloc: Global, words: &'a [String]) -> Result<Asked<'a>, WordsFault>
+    ensures { Answers result (demo_of (drop 1 (map string_bytes words.now))) }
+{
+    let Ok(command) = demo_reader(alloc) else {
+        return Err(WordsFault::Memory);
+    };
+    match read(command, words) {
+        Ok(matches) => demo_given(&matches).ok_or(WordsFault::Usage),
+        Err(fault) => Err(fault),
+    }
+}
+
+// What was read of the words of `demo`.
+fn demo_given<'a>(matches: &ArgMatches<'a>) -> Option<Asked<'a>>
+    ensures { option_map asked_of result ≡ demo_read (rows_of (found_of matches.now)) }
+{
+    let number = only_word(given_under(matches, "words"))?;
+    let blocks = number_within(number.as_bytes(), 0, MOST_BLOCKS)?;
+    let options = options_given(matches)?;
+    Some(Asked::Demo { blocks, options })
+}
+
+// The options of an analysis.
+fn options_given(matches: &ArgMatches) -> Option<Options>
+    ensures { result ≡ options_read (rows_of (found_of matches.now)) }
+{
+    let k = number_given(given_under(matches, "k"), K, K_LIMIT)?;
+    let budget = number_given(given_under(matches, "budget"), BUDGET, BUDGET_LIMIT)?;
+    let domain = domain_given(given_under(matches, "domain"))?;
+    Some(Options { k, budget, domain })
+}
+
+// The version that is printed.
+fn version_given(matches: &ArgMatches) -> Option<TextVersion>
+    ensures { result ≡ version_read (rows_of (found_of matches.now)) }
+{
+    let number = number_given(given_under(matches, "text"), TEXT, TEXT)?;
+    Some(if number == 1 {
+        TextVersion::First
+    } else {
+        TextVersion::Second
+    })
+}
+
+// The only positional word.
+fn only_word<'a>(given: Given<'a>) -> Option<&'a str>
+    ensures { (values : List (List ℕ)) → IsGiven given.entry values → option_map (λ s. s.now) result ≡ only_word values }
+{
+    match given {
+        Given::Never => None,
+        Given::Once(word) => Some(word),
+        Given::Often => None,
+    }
+}
+
+/// Three positional words.
+#[derive(Clone, Copy)]
+struct ThreeWords<'a> {
+    first: &'a str,
+    second: &'a str,
+    third: &'a str,
+}
+
+// The positional words, where they are three.
+fn three_words<'a>(matches: &ArgMatches<'a>) -> Option<ThreeWords<'a>>
+    ensures { option_map three_of result ≡ three_words (listed WORDS (rows_of (found_of matches.now))) }
 {
     match matches.get_strs("words") {
-        Some(words) => listing_among(words),
+        Some(words) => three_among(words),
         None => None,
     }
 }
 
-// The words `IMAGE ADDRESS COUNT` alone.
-fn listing_among<'a>(words: &[&'a str]) -> Option<Asked<'a>>
-    ensures { option_map asked_of result ≡ listing_of (map (λ s. s.now) words.now) }
+fn three_among<'a>(words: &[&'a str]) -> Option<ThreeWords<'a>>
+    ensures { option_map three_of result ≡ three_words (map (λ s. s.now) words.now) }
 {
     if words.len() != 3 {
         return None;
     }
-    listing_words(words[0], words[1], words[2])
-}
-
-// The words `IMAGE ADDRESS COUNT`.
-fn listing_words<'a>(image: &'a str, address: &str, count: &str) -> Option<Asked<'a>>
-    ensures { option_map asked_of result ≡ listing_of (image.now ∷ address.now ∷ count.now ∷ []) }
-{
-    if image.is_empty() {
-        return None;
-    }
-    let address = address_of(address.as_bytes())?;
-    let count = number_within(count.as_bytes(), COUNT_LIMIT)?;
-    Some(Asked {
-        image,
-        stubs: None,
-        task: Task::Decode { address, count },
+    Some(ThreeWords {
+        first: words[0],
+        second: words[1],
+        third: words[2],
     })
-}
-
-// The name of a file, which is the only positional word.
-fn only_name<'a>(given: Given<'a>) -> Option<&'a str>
-    ensures { (values : List (List ℕ)) → IsGiven given.entry values → option_map (λ s. s.now) result ≡ only_name values }
-{
-    match given {
-        Given::Never => None,
-        Given::Once(name) => { if name.is_empty() { None } else { Some(name) } }
-        Given::Often => None,
-    }
 }
 
 // The name of a file given to an option, which may be left out.
@@ -184,12 +300,12 @@ fn file_given<'a>(given: Given<'a>) -> Option<Option<&'a str>>
 }
 
 // The number given to an option, or its default.
-fn number_given(given: Given<'_>, default: u32, limit: u32) -> Option<u32>
-    ensures { (values : List (List ℕ)) → IsGiven given.entry values → result ≡ number_given default limit values }
+fn number_given(given: Given<'_>, default: u32, most: u32) -> Option<u32>
+    ensures { (values : List (List ℕ)) → IsGiven given.entry values → result ≡ number_given default most values }
 {
     match given {
         Given::Never => Some(default),
-        Given::Once(value) => number_within(value.as_bytes(), limit),
+        Given::Once(value) => number_within(value.as_bytes(), 1, most),
         Given::Often => None,
     }
 }
@@ -210,6 +326,7 @@ fn domain_named(word: &str) -> Option<DomainName>
     match word {
         "flat" => Some(DomainName::Flat),
         "bounded" => Some(DomainName::Bounded),
+        "interval" => Some(DomainName::Interval),
         _ => None,
     }
 }
@@ -236,15 +353,21 @@ fn is_number(word: &[u8]) -> bool
     are_digits(word)
 }
 
-// The number from 1 to a limit that a word writes.
-fn number_within(word: &[u8], limit: u32) -> Option<u32>
-    ensures { result ≡ number_within limit word.now }
+// The number that a word writes, where it is in a range, bounds included.
+fn number_within(word: &[u8], least: u32, most: u32) -> Option<u32>
+    ensures { result ≡ number_within least most word.now }
 {
     if !is_number(word) {
         return None;
     }
     match parse_number(word) {
-        Some(n) => { if 1 <= n && n <= limit { Some(n) } else { None } }
+        Some(n) => {
+            if least <= n && n <= most {
+                Some(n)
+            } else {
+                None
+            }
+        }
         None => None,
     }
 }

@@ -1,8 +1,8 @@
 use Rattle.std.proofs.Common.{◌∙◌, subst, sym, refl, codes, drop, List, map, string_bytes, Result}
 use Rattle.clap.specs.Words.{found_of, rows_of, Text}
-use Rattle.command_words.specs.declared.words.Asked.{Asked}
+use Rattle.command_words.specs.declared.task.Asked.{Asked}
 use Rattle.command_words.specs.declared.words.WordsFault.{WordsFault}
-use Rattle.command_words.specs.Words.{LIST_OPTIONS, list_of}
+use Rattle.command_words.specs.Words.{STUBS_OPTION, list_of}
 use Rattle.command_words.specs.Reader.{Answers}
 use Rattle.command_words.proofs.Commands.{answers_ok, list_exact, list_refused}
 use Rattle.command_words.proofs.words.list_words.Goals as goal
@@ -12,7 +12,7 @@ returns-in-Ok-read c =
     let words : List Text = drop 1 (map string_bytes c.args.words.now) in
     let P : Result Asked WordsFault → Type 0 = λ r. Answers r (list_of words) in
     subst P (sym c.ok_or.ensures.value) (answers_ok c.list_given.result (list_of words)
-    (c.list_given.ensures ∙ list_exact words (rows_of (found_of c.in-Ok-read.matches)) (c.in-Ok-read.ensures (codes "list") LIST_OPTIONS c.in-Ok.ensures refl refl)))
+    (c.list_given.ensures ∙ list_exact words (rows_of (found_of c.in-Ok-read.matches)) (c.in-Ok-read.ensures (codes "list") STUBS_OPTION c.in-Ok.ensures refl refl)))
 
 pub returns-in-Err : goal.returns-in-Err
-returns-in-Err c = λ usage. list_refused (drop 1 (map string_bytes c.args.words.now)) (c.in-Err.ensures (codes "list") LIST_OPTIONS c.in-Ok.ensures refl refl usage)
+returns-in-Err c = λ usage. list_refused (drop 1 (map string_bytes c.args.words.now)) (c.in-Err.ensures (codes "list") STUBS_OPTION c.in-Ok.ensures refl refl usage)

@@ -1,6 +1,6 @@
 use Rattle.std.proofs.Common.{◌∙◌, subst, sym, refl, codes, drop, List, map, string_bytes, Result}
 use Rattle.clap.specs.Words.{found_of, rows_of, Text}
-use Rattle.command_words.specs.declared.words.Asked.{Asked}
+use Rattle.command_words.specs.declared.task.Asked.{Asked}
 use Rattle.command_words.specs.declared.words.WordsFault.{WordsFault}
 use Rattle.command_words.specs.Words.{RECOVER_OPTIONS, recover_of}
 use Rattle.command_words.specs.Reader.{Answers}
