@@ -74,7 +74,7 @@ pub(crate) fn number<D: Domain>(parts: &Parts<D>, n: u32) -> D
     ensures value { result ≡ D.number n }
     ensures holds { MayHold (values_of D.Domain.own D.eq) parts.now.blocks Width.B32 result }
 {
-    let _ = parts.facts();
+    let _ = parts.fact_spots();
     D::number(n)
 }
 

@@ -74,7 +74,8 @@ fn held<D: Domain>(alloc: Global, s: &State<D>) -> Result<Vec<(Holder, D)>, NoMe
     ensures { IfOk result (λ pairs. pairs.items ≡ held s.now) }
 {
     let mut pairs = held_registers(alloc, s)?;
-    push_facts(&mut pairs, s.parts.facts())?;
+    let facts = s.parts.copy_facts()?;
+    push_facts(&mut pairs, &facts)?;
     Ok(pairs)
 }
 

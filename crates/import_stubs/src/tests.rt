@@ -311,7 +311,8 @@ fn flags_text(alloc: Global, t: &Truths) -> Result<String, Fail> {
 // The facts.
 fn facts_text<D: Domain>(alloc: Global, parts: &Parts<D>) -> Result<String, Fail> {
     let mut out = String::new(alloc);
-    for f in parts.facts() {
+    let facts = parts.copy_facts()?;
+    for f in &facts {
         push_between(&mut out, ",")?;
         out.push('[')?;
         push_place(&mut out, f.area, f.low)?;

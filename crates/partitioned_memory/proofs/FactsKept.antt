@@ -23,7 +23,7 @@ use Rattle.partitioned_memory.specs.Lists.{Every, placed}
 use Rattle.partitioned_memory.specs.Held.{PartsHeld, after_exact, after_inside, after_interval, dirty_after, fact_before, facts_off, facts_with, interval_of_fact, is_counted, is_many, known_byte}
 use Rattle.partitioned_memory.specs.Well.{HasCount}
 use Rattle.partitioned_memory.specs.Describes.{AreBytes, IsApart, IsDescribed, IsTrueOf, IsWritten, SameInAreas, StartsAt, bytes_in, counts_one, is_byte_of, number_in}
-use Rattle.partitioned_memory.proofs.ListLaws.{Every-both, Every-filter, Every-kept, Every-placed, Every-weaker}
+use Rattle.partitioned_memory.proofs.ListLaws.{Every-both, Every-filter, Every-kept, Every-placed}
 use Rattle.partitioned_memory.proofs.Orders.{int_lt-true}
 use Rattle.partitioned_memory.proofs.Bytes.{IsWrite, byte-from, byte-is, byte-kept, clean-after, first-marked, known-from, known-is, number-kept, off-no_byte}
 

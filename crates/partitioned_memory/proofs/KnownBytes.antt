@@ -1,10 +1,8 @@
 -- Bytes of the image that are known: how they are looked up, and that they are memory's.
-use Rattle.std.proofs.Common.{◌≡◌, ℕ, ◌+◌, ◌*◌, ◌<◌, ◌^◌, zero, suc, Bool, true, false, cond, List, [], ◌∷◌, take, Option, Some, None, refl, sym, ap, ◌∙◌, subst, arith, ℤ, pos, ◌+ℤ◌, ◌-ℤ◌, ◌≤ℤ◌, ◌<ℤ◌, inl, inr}
-use Rattle.std.specs.Prelude.{◌/◌, ◌%◌, ◌&&◌, not, find, is_some, option_and_then, unsigned_abs}
-use Rattle.std.specs.List.{prefix_len}
+use Rattle.std.proofs.Common.{◌≡◌, ℕ, ◌<◌, ◌^◌, zero, suc, Bool, true, false, cond, List, [], ◌∷◌, Option, Some, None, refl, sym, ap, ◌∙◌, subst, arith, ℤ, pos, ◌+ℤ◌, ◌-ℤ◌, ◌≤ℤ◌, ◌<ℤ◌}
+use Rattle.std.specs.Prelude.{◌/◌, ◌%◌, find, is_some, option_and_then, unsigned_abs}
 use Rattle.std.specs.Option.{option_map, option_or}
-use Rattle.std.proofs.Math.Numerals.{one-add}
-use Rattle.std.proofs.lemmas.Bool.{false≢true, and_parts, or_left, false_from_ne_true}
+use Rattle.std.proofs.lemmas.Bool.{false≢true, and_parts}
 use Rattle.std.proofs.lemmas.Int.{ints}
 use Rattle.bit_words.specs.declared.width.Width.{Width}
 use Rattle.bit_words.specs.declared.width.Width.TheVariants.{B8, B16, B32}
@@ -15,26 +13,15 @@ use Rattle.address_regions.specs.Places.{Places, IsValid, place_at}
 use Rattle.address_regions.proofs.PlaceLaws.{place_at-is}
 use Rattle.domain_laws.specs.Laws.{IsLawful, Values}
 use Rattle.partitioned_memory.specs.declared.area.Area.TheVariants.{Image}
-use Rattle.partitioned_memory.specs.declared.area.Interval.{Interval}
 use Rattle.partitioned_memory.specs.declared.fact.Fact.{Fact}
-use Rattle.partitioned_memory.specs.Areas.{has_byte, interval_at, is_before}
-use Rattle.partitioned_memory.specs.Lists.{Ascends, Every}
-use Rattle.partitioned_memory.specs.Held.{PartsHeld, fact_before, interval_of_fact, known_byte}
-use Rattle.partitioned_memory.specs.KnownBytes.{byte_held, byte_of_fact, facts_near, is_number_at, known_image_byte}
+use Rattle.partitioned_memory.specs.Areas.{has_byte, interval_at}
+use Rattle.partitioned_memory.specs.Lists.{Every}
+use Rattle.partitioned_memory.specs.Held.{PartsHeld, interval_of_fact, known_byte}
+use Rattle.partitioned_memory.specs.KnownBytes.{byte_held, byte_of_fact, is_number_at, known_image_byte}
 use Rattle.partitioned_memory.specs.Describes.{IsDescribed, IsTrueOf, StartsAt, number_in}
-use Rattle.partitioned_memory.proofs.Bytes.{IsByte, byte-from, byte-is, off-no_byte}
-use Rattle.partitioned_memory.proofs.ListLaws.{Every-weaker}
-use Rattle.partitioned_memory.proofs.Orders.{is_before-trans}
+use Rattle.partitioned_memory.proofs.Bytes.{IsByte, byte-is}
 
 -- ---- looking up
-
--- the byte at an offset of the image, as an interval
-abbrev own_byte : ℤ → Interval
-own_byte o = interval_at Image o (pos 1)
-
-find-none : {X : Type 0} (t : X → Bool) (xs : List X) → Every (λ x. t x ≡ false) xs → find t xs ≡ None
-find-none t [] h = refl
-find-none t (x ∷ xs) h = ap (λ b. cond b (Some x) (find t xs)) h.0 ∙ find-none t xs h.1
 
 pub find-passes : {X : Type 0} (t : X → Bool) (xs : List X) (x : X) → find t xs ≡ Some x → t x ≡ true
 find-passes t [] x e = absurd (cc)
@@ -53,35 +40,6 @@ find-held P t (y ∷ ys) x e h =
     ] e
 
 module _ {D : Type 0} (d : Values D) where
-  -- a fact that lies past a byte does not have it
-  past-none : (o : ℤ) (f : Fact D) → is_before (own_byte o) (interval_of_fact f) ≡ true → is_number_at d o f ≡ false
-  past-none o f e =
-      let own = byte-from (own_byte o) Image o (record { area = refl; low = omega (arith, ints); high = omega (arith, ints) }) in
-      false_from_ne_true (is_number_at d o f) (λ t.
-      let has = and_parts (has_byte (interval_of_fact f) Image o) (is_some (d.number_of f.value)) t in
-      off-no_byte (own_byte o) (interval_of_fact f) Image o (or_left (is_before (own_byte o) (interval_of_fact f)) (is_before (interval_of_fact f) (own_byte o)) e) own has.0)
-
-  filled : (f : Fact D) → (interval_of_fact f).low ≤ℤ (interval_of_fact f).end
-  filled f = omega (arith, ints)
-
-  find-more : (t : Fact D → Bool) (f : Fact D) (fs : List (Fact D)) (n : ℕ) → find t (take (1 + n) (f ∷ fs)) ≡ cond (t f) (Some f) (find t (take n fs))
-  find-more t f fs n = ap (λ k. find t (take k (f ∷ fs))) (one-add n)
-
-  -- the fact that has a byte stands before those that lie past it
-  pub find-near : (o : ℤ) (facts : List (Fact D)) → Ascends fact_before facts → find (is_number_at d o) (facts_near o facts) ≡ find (is_number_at d o) facts
-  find-near o [] h = refl
-  find-near o (f ∷ fs) h =
-      let own = own_byte o in
-      let near = λ (g : Fact D). not (is_before own (interval_of_fact g)) in
-      elim (is_before own (interval_of_fact f)) as (λ b. is_before own (interval_of_fact f) ≡ b → find (is_number_at d o) (take (cond (not b) (1 + prefix_len near fs) 0) (f ∷ fs)) ≡ find (is_number_at d o) (f ∷ fs)) [
-        | true ↦ λ e.
-            sym (find-none (is_number_at d o) (f ∷ fs) (
-              past-none o f e,
-              Every-weaker (λ g. fact_before f g ≡ true) (λ g. is_number_at d o g ≡ false) fs (λ g k. past-none o g (is_before-trans own (interval_of_fact f) (interval_of_fact g) (filled f) e k)) h.0,
-            ))
-        | false ↦ λ e. find-more (is_number_at d o) f fs (prefix_len near fs) ∙ ap (λ t. cond (is_number_at d o f) (Some f) t) (find-near o fs h.1)
-      ] refl
-
   -- the byte of a fact that is a number comes before any other
   number-alone : (o : ℤ) (f : Fact D) (other : Option ℕ) (n : ℕ) → is_number_at d o f ≡ true → option_or (byte_of_fact d o f) other ≡ Some n → byte_of_fact d o f ≡ Some n
   number-alone o f other n at e =

@@ -34,7 +34,7 @@ same_area-is (In r) (In s) e = ap In (same_region-is r s e)
 same_area-is a b e = absurd (cc)
 
 -- areas that tie are one
-same_area-by_cmp : (a b : Area) → same_area a b ≡ is_eq (area_cmp a b)
+pub same_area-by_cmp : (a b : Area) → same_area a b ≡ is_eq (area_cmp a b)
 unfolding area_cmp same_area
 same_area-by_cmp a b = order.Laws.matches_eq-law a b
 
@@ -85,7 +85,7 @@ not_below low high p q e =
     int_lt-false high low (ap (λ z. int_lt z low) (sym (to_z-of_z w64 high q)) ∙ ap (λ z. int_lt (to_z w64 (of_z w64 high)) z) (sym (to_z-of_z w64 low p)) ∙ e)
 
 -- offsets of 64 bits, as a call passes them on
-passed : (z : ℤ) → FitsSigned w64 z → to_z w64 (of_z w64 z) ≡ z
+pub passed : (z : ℤ) → FitsSigned w64 z → to_z w64 (of_z w64 z) ≡ z
 passed z h = to_z-of_z w64 z h
 
 pub inside-passed : (a : Area) (low high : ℤ) (i : Interval) → FitsSigned w64 low → FitsSigned w64 high → int_lt (to_z w64 (of_z w64 high)) (to_z w64 (of_z w64 low)) ≡ false → (low ≤ℤ high → IsInside (interval_to a low high)) → i ≡ interval_to a (to_z w64 (of_z w64 low)) (to_z w64 (of_z w64 high)) → IsInside i

@@ -1,8 +1,8 @@
 -- What the parts hold, and what each call makes of it.
-use Rattle.std.specs.Prelude.{ℕ, ◌+◌, ◌*◌, Bool, true, false, not, ◌&&◌, ◌||◌, ◌==◌, List, [], ◌∷◌, map, filter, find, Option, Some, None, ℤ, pos, negsuc, ◌+ℤ◌, ◌-ℤ◌, int_lt, int_le, if◌then◌else◌}
+use Rattle.std.specs.Prelude.{ℕ, ◌+◌, ◌*◌, Bool, true, false, not, ◌&&◌, ◌||◌, ◌==◌, List, [], ◌∷◌, map, filter, find, fold, Option, Some, None, ℤ, pos, negsuc, ◌+ℤ◌, ◌-ℤ◌, int_lt, int_le, if◌then◌else◌}
 use Rattle.std.specs.List.{list_any, list_all}
 use Rattle.std.specs.Option.{option_map}
-use Rattle.std.specs.Ordering.{int_eq}
+use Rattle.std.specs.Ordering.{int_eq, is_lt}
 use Rattle.bit_words.specs.declared.width.Width.{Width}
 use Rattle.bit_words.specs.declared.width.Width.TheVariants.{B8, B16, B32}
 use Rattle.bit_words.specs.Width.{bytes_of}
@@ -16,6 +16,8 @@ use Rattle.domain_laws.specs.Laws.{Values}
 use Rattle.partitioned_memory.specs.declared.area.Area.{Area}
 use Rattle.partitioned_memory.specs.declared.area.Area.TheVariants.{Image, In}
 use Rattle.partitioned_memory.specs.declared.area.Interval.{Interval}
+use Rattle.partitioned_memory.specs.declared.fact.Spot.{Spot}
+use Rattle.partitioned_memory.specs.declared.fact.Held.{Held}
 use Rattle.partitioned_memory.specs.declared.fact.Fact.{Fact}
 use Rattle.partitioned_memory.specs.declared.fact.Dirty.{Dirty}
 use Rattle.partitioned_memory.specs.declared.fact.Counted.{Counted}
@@ -30,6 +32,25 @@ pub record PartsHeld (D : Type 0) : Type 0 where
 
 abbrev pub nothing_held : {D : Type 0} → PartsHeld D
 nothing_held = record { facts = []; dirty = []; blocks = [] }
+
+-- ---- by spots
+
+abbrev pub spot_at : Area → ℤ → Spot
+spot_at a low = record { area = a; low = low }
+
+-- a fact as a pair of its spot and the rest, and back
+abbrev pub pair_of_fact : {D : Type 0} → Fact D → Spot × Held D
+pair_of_fact f = (record { area = f.area; low = f.low }, record { w = f.w; value = f.value })
+
+abbrev pub fact_at : {D : Type 0} → Spot × Held D → Fact D
+fact_at p = record { area = p.0.area; low = p.0.low; w = p.1.w; value = p.1.value }
+
+-- a dirty range as a pair of its spot and its size, and back
+abbrev pub pair_of_dirty : Dirty → Spot × ℤ
+pair_of_dirty r = (record { area = r.area; low = r.low }, r.size)
+
+abbrev pub dirty_at : Spot × ℤ → Dirty
+dirty_at p = record { area = p.0.area; low = p.0.low; size = p.1 }
 
 -- ---- where they lie, and their order
 
@@ -105,9 +126,18 @@ fact_given a low w v f = if is_at a low w f then record { area = f.area; low = f
 abbrev pub facts_put : {D : Type 0} → Values D → Area → ℤ → Width → D → List (Fact D) → List (Fact D)
 facts_put d a low w v facts = if d.rank v == 0 then filter (λ f. not (is_at a low w f)) facts else map (fact_given a low w v) facts
 
+-- the value of what is held at a spot, where it is of a width
+abbrev pub value_of_width : {D : Type 0} → Width → Option (Held D) → Option D
+value_of_width w None = None
+value_of_width w (Some h) = if bytes_of h.w == bytes_of w then Some h.value else None
+
 -- a fact of the stack with a byte below an offset
 abbrev pub is_stack_below : {D : Type 0} → ℤ → Fact D → Bool
 is_stack_below high f = same_area f.area (In Stack) && int_lt f.low high
+
+-- a fact that neither is one of those nor lies before the stack
+abbrev pub is_after_below : {D : Type 0} → ℤ → Fact D → Bool
+is_after_below high f = not (is_lt (area_cmp f.area (In Stack))) && not (is_stack_below high f)
 
 -- ---- dirty ranges
 
@@ -122,10 +152,9 @@ dirty_with i (r ∷ rs) =
     else if is_left i (interval_of_dirty r) then dirty_of i ∷ r ∷ rs
     else dirty_with (hull i (interval_of_dirty r)) rs
 
--- what follows in the list: the new range among the others, while it is still to be put there
-abbrev pub dirty_rest : Option Interval → List Dirty → List Dirty
-dirty_rest (Some i) rs = dirty_with i rs
-dirty_rest None rs = rs
+-- an interval and dirty ranges as one
+abbrev pub hull_of : Interval → List Dirty → Interval
+hull_of i rs = fold (λ j r. hull j (interval_of_dirty r)) i rs
 
 -- the same in the image and in zeroed blocks; elsewhere nothing is marked
 abbrev pub dirty_after : Interval → List Dirty → List Dirty
@@ -214,6 +243,11 @@ after_fact d a low w v h = record { facts = facts_put d a low w v h.facts; dirty
 -- g has the spot and width of f, and a value below that of f
 abbrev pub is_below : {D : Type 0} → Values D → Fact D → Fact D → Bool
 is_below d f g = is_at f.area f.low f.w g && d.leq g.value f.value
+
+-- what is held at the spot of f has its width, and a value below that of f
+abbrev pub value_below : {D : Type 0} → Values D → Fact D → Option (Held D) → Bool
+value_below d f None = false
+value_below d f (Some h) = (bytes_of h.w == bytes_of f.w) && d.leq h.value f.value
 
 -- some fact of the list is below f
 abbrev pub covers_fact : {D : Type 0} → Values D → List (Fact D) → Fact D → Bool

@@ -1,18 +1,13 @@
 -- Bytes of the image that the parts know.
-use Rattle.std.specs.Prelude.{ℕ, ◌/◌, ◌%◌, ◌^◌, Bool, not, ◌&&◌, List, find, Option, None, is_some, option_and_then, ℤ, pos, ◌-ℤ◌, unsigned_abs, if◌then◌else◌}
-use Rattle.std.specs.List.{take_while}
+use Rattle.std.specs.Prelude.{ℕ, ◌/◌, ◌%◌, ◌^◌, Bool, ◌&&◌, List, find, Option, None, is_some, option_and_then, ℤ, pos, ◌-ℤ◌, unsigned_abs, if◌then◌else◌}
 use Rattle.std.specs.Option.{option_map, option_or}
 use Rattle.memory_map.specs.declared.span.Span.{Span}
 use Rattle.memory_map.specs.Range.{Range, byte_at}
 use Rattle.domain_laws.specs.Laws.{Values}
 use Rattle.partitioned_memory.specs.declared.area.Area.TheVariants.{Image}
 use Rattle.partitioned_memory.specs.declared.fact.Fact.{Fact}
-use Rattle.partitioned_memory.specs.Areas.{has_byte, interval_at, is_before}
+use Rattle.partitioned_memory.specs.Areas.{has_byte}
 use Rattle.partitioned_memory.specs.Held.{PartsHeld, interval_of_fact, known_byte}
-
--- of facts in order, those up to the first that lies past a byte of the image
-abbrev pub facts_near : {D : Type 0} → ℤ → List (Fact D) → List (Fact D)
-facts_near o facts = take_while (λ f. not (is_before (interval_at Image o (pos 1)) (interval_of_fact f))) facts
 
 module _ {D : Type 0} (d : Values D) where
   -- a fact has the byte at an offset of the image, and is of a number

@@ -1,5 +1,7 @@
 pub mod Areas
 pub mod Lists
+pub mod Pairs
+pub mod Leaves
 pub mod Held
 pub mod KnownBytes
 pub mod Well

@@ -1,6 +1,6 @@
 ghost use Rattle.std.specs.Prelude.{◌≡◌, ◌↔◌, ◌^◌, IsTrue, neg_ℤ, pos, ◌≤ℤ◌};
 ghost use Rattle.partitioned_memory.specs.Held.{dirty_of};
-ghost use Rattle.partitioned_memory.specs.Areas.{IsBounded, IsInside, bounds_of, has_byte, hull, interval_at, interval_between, interval_to, is_before, is_left, is_marked, is_off, is_zeroed};
+ghost use Rattle.partitioned_memory.specs.Areas.{IsBounded, IsInside, bounds_of, has_byte, hull, interval_at, interval_between, interval_to, is_before, is_left, is_marked, is_zeroed};
 
 use crate::fact::Dirty;
 use address_regions::Region;
@@ -137,13 +137,6 @@ impl Interval {
             Ordering::Equal => self.end < other.low,
             Ordering::Greater => false,
         }
-    }
-
-    /// Whether it shares no byte with another.
-    pub(crate) fn is_off(self, other: Interval) -> bool
-        ensures { result ≡ is_off self other }
-    {
-        self.is_before(other) || other.is_before(self)
     }
 
     /// The least interval that has both, in this one's area.

@@ -1,118 +1,114 @@
-ghost use Rattle.std.specs.Prelude.{◌≡◌, [], ◌∷◌, ◌++◌, List, IfOk};
+ghost use Rattle.std.specs.Prelude.{◌≡◌, IfOk, map};
 ghost use Rattle.std.specs.List.{list_any, list_all};
-ghost use Rattle.std.specs.Option.{ForSome};
-ghost use Rattle.partitioned_memory.specs.declared.fact.Dirty.{Dirty};
 ghost use Rattle.partitioned_memory.specs.Areas.{IsBounded, has_byte};
-ghost use Rattle.partitioned_memory.specs.Lists.{Every};
-ghost use Rattle.partitioned_memory.specs.Held.{dirty_after, dirty_of, dirty_rest, dirty_with, interval_of_dirty, is_dirty, lies_in};
+ghost use Rattle.partitioned_memory.specs.Lists.{Ascends, Every};
+ghost use Rattle.partitioned_memory.specs.Leaves.{pairs_in};
+ghost use Rattle.partitioned_memory.specs.Held.{dirty_after, dirty_at, dirty_before, dirty_with, hull_of, interval_of_dirty, is_dirty, lies_in, lies_in_one};
 
 use crate::area::{Area, Interval};
-use crate::fact::Dirty;
+use crate::fact::{Dirty, Spot};
+use crate::leaf::Leaf;
+use crate::spots::Spots;
+use crate::stretches::Touching;
 use bit_words::NoMemory;
-use std::alloc::Global;
+use std::sync::Arc;
+
+fn is_dirty_among(leaf: &Leaf<i64>, area: Area, o: i64) -> bool
+    ensures { result ≡ list_any (λ p. has_byte (interval_of_dirty (dirty_at p)) area o) leaf.now.pairs.items }
+{
+    leaf.pairs
+        .iter()
+        .any(|pair| Dirty::at(pair).interval().has(area, o))
+}
+
+fn is_dirty_in(leaves: &[Arc<Leaf<i64>>], area: Area, o: i64) -> bool
+    ensures { result ≡ list_any (λ leaf. list_any (λ p. has_byte (interval_of_dirty (dirty_at p)) area o) (pairs_in leaf)) leaves.now }
+{
+    leaves.iter().any(|leaf| is_dirty_among(leaf, area, o))
+}
 
 // Whether a byte is one of some dirty range's.
-pub(crate) fn is_dirty(ranges: &[Dirty], area: Area, o: i64) -> bool
-    ensures { result ≡ is_dirty area o ranges.now }
+pub(crate) fn is_dirty(ranges: &Spots<i64>, area: Area, o: i64) -> bool
+    ensures { result ≡ is_dirty area o (map dirty_at ranges.now) }
 {
-    ranges.iter().any(|r| r.interval().has(area, o))
+    is_dirty_in(ranges.leaves(), area, o)
 }
 
-// One range more of a list goes out; what is still to be put there comes back.
-fn put_next(
-    out: &mut Vec<Dirty>,
-    pending: Option<Interval>,
-    next: Dirty,
-) -> Result<Option<Interval>, NoMemory>
-    requires pending { ForSome pending IsBounded }
-    requires next { IsBounded (interval_of_dirty next) }
-    ensures pending { IfOk result (λ left. ForSome left IsBounded) }
-    ensures made { IfOk result (λ left. (rest : List Dirty) → out.new.items ++ dirty_rest left rest ≡ out.old.items ++ dirty_rest pending (next ∷ rest)) }
-{
-    match pending {
-        None => {
-            out.push(next)?;
-            Ok(None)
-        }
-        Some(new) => put_beside(out, new, next),
-    }
-}
-
-// The same while the new range is still to be put.
-fn put_beside(
-    out: &mut Vec<Dirty>,
-    new: Interval,
-    next: Dirty,
-) -> Result<Option<Interval>, NoMemory>
+// An interval and ranges as one.
+fn hull_of(new: Interval, met: &[(Spot, i64)]) -> Interval
     requires new { IsBounded new }
-    requires next { IsBounded (interval_of_dirty next) }
-    ensures pending { IfOk result (λ left. ForSome left IsBounded) }
-    ensures made { IfOk result (λ left. (rest : List Dirty) → out.new.items ++ dirty_rest left rest ≡ out.old.items ++ dirty_with new (next ∷ rest)) }
+    requires met { Every (λ r. IsBounded (interval_of_dirty r)) (map dirty_at met.now) }
+    ensures value { result ≡ hull_of new (map dirty_at met.now) }
+    ensures bounded { IsBounded result }
 {
-    let held = next.interval();
-    if held.is_left(new) {
-        out.push(next)?;
-        return Ok(Some(new));
+    let mut whole = new;
+    for pair in met {
+        whole = whole.hull(Dirty::at(pair).interval());
     }
-    if new.is_left(held) {
-        out.push(new.dirty())?;
-        out.push(next)?;
-        return Ok(None);
-    }
-    Ok(Some(new.hull(held)))
-}
-
-fn put_last(out: &mut Vec<Dirty>, pending: Option<Interval>) -> Result<(), NoMemory>
-    requires { ForSome pending IsBounded }
-    ensures { IfOk result (λ _. out.new.items ≡ out.old.items ++ dirty_rest pending []) }
-{
-    if let Some(new) = pending {
-        out.push(new.dirty())?;
-    }
-    Ok(())
+    whole
 }
 
 // The dirty ranges with one more.
-fn dirty_with(alloc: Global, ranges: &[Dirty], new: Interval) -> Result<Vec<Dirty>, NoMemory>
+fn dirty_with(ranges: &Spots<i64>, new: Interval) -> Result<Spots<i64>, NoMemory>
     requires new { IsBounded new }
-    requires ranges { Every (λ r. IsBounded (interval_of_dirty r)) ranges.now }
-    ensures { IfOk result (λ all. all.items ≡ dirty_with new ranges.now) }
+    requires ranges { Every (λ r. IsBounded (interval_of_dirty r)) (map dirty_at ranges.now) }
+    requires ascend { Ascends dirty_before (map dirty_at ranges.now) }
+    ensures { IfOk result (λ all. map dirty_at all ≡ dirty_with new (map dirty_at ranges.now)) }
 {
-    let mut out = Vec::new(alloc);
-    let mut pending = Some(new);
-    for r in ranges {
-        pending = put_next(&mut out, pending, *r)?;
-    }
-    put_last(&mut out, pending)?;
-    Ok(out)
+    let met = ranges.within(&Touching(new))?;
+    let whole = hull_of(new, &met);
+    ranges.around(&Touching(new), Some(whole.dirty().pair()))
 }
 
 // The same in the image and in zeroed blocks.
-pub(crate) fn dirty_after(
-    alloc: Global,
-    ranges: &[Dirty],
-    new: Interval,
-) -> Result<Vec<Dirty>, NoMemory>
+pub(crate) fn dirty_after(ranges: &Spots<i64>, new: Interval) -> Result<Spots<i64>, NoMemory>
     requires new { IsBounded new }
-    requires ranges { Every (λ r. IsBounded (interval_of_dirty r)) ranges.now }
-    ensures { IfOk result (λ all. all.items ≡ dirty_after new ranges.now) }
+    requires ranges { Every (λ r. IsBounded (interval_of_dirty r)) (map dirty_at ranges.now) }
+    requires ascend { Ascends dirty_before (map dirty_at ranges.now) }
+    ensures { IfOk result (λ all. map dirty_at all ≡ dirty_after new (map dirty_at ranges.now)) }
 {
     if new.area.is_marked() {
-        dirty_with(alloc, ranges, new)
+        dirty_with(ranges, new)
     } else {
-        Ok(Vec::from_slice(alloc, ranges)?)
+        ranges.copy()
     }
 }
 
-fn lies_in(ranges: &[Dirty], r: Dirty) -> bool
-    ensures { result ≡ lies_in ranges.now r }
+fn lies_among(leaf: &Leaf<i64>, r: Dirty) -> bool
+    ensures { result ≡ list_any (λ p. lies_in_one r (dirty_at p)) leaf.now.pairs.items }
 {
-    ranges.iter().any(|q| r.lies_in(*q))
+    leaf.pairs.iter().any(|pair| r.lies_in(Dirty::at(pair)))
+}
+
+fn lies_in_leaves(leaves: &[Arc<Leaf<i64>>], r: Dirty) -> bool
+    ensures { result ≡ list_any (λ leaf. list_any (λ p. lies_in_one r (dirty_at p)) (pairs_in leaf)) leaves.now }
+{
+    leaves.iter().any(|leaf| lies_among(leaf, r))
+}
+
+fn lies_in(ranges: &Spots<i64>, r: Dirty) -> bool
+    ensures { result ≡ lies_in (map dirty_at ranges.now) r }
+{
+    lies_in_leaves(ranges.leaves(), r)
+}
+
+fn hold_leaf(ranges: &Spots<i64>, leaf: &Leaf<i64>) -> bool
+    ensures { result ≡ list_all (λ p. lies_in (map dirty_at ranges.now) (dirty_at p)) leaf.now.pairs.items }
+{
+    leaf.pairs
+        .iter()
+        .all(|pair| lies_in(ranges, Dirty::at(pair)))
+}
+
+fn hold_leaves(ranges: &Spots<i64>, leaves: &[Arc<Leaf<i64>>]) -> bool
+    ensures { result ≡ list_all (λ leaf. list_all (λ p. lies_in (map dirty_at ranges.now) (dirty_at p)) (pairs_in leaf)) leaves.now }
+{
+    leaves.iter().all(|leaf| hold_leaf(ranges, leaf))
 }
 
 // Whether each of the other dirty ranges lies in one of these.
-pub(crate) fn hold_dirty(ranges: &[Dirty], others: &[Dirty]) -> bool
-    ensures { result ≡ list_all (lies_in ranges.now) others.now }
+pub(crate) fn hold_dirty(ranges: &Spots<i64>, others: &Spots<i64>) -> bool
+    ensures { result ≡ list_all (lies_in (map dirty_at ranges.now)) (map dirty_at others.now) }
 {
-    others.iter().all(|r| lies_in(ranges, *r))
+    hold_leaves(ranges, others.leaves())
 }

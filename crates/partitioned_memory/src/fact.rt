@@ -1,13 +1,11 @@
 ghost use Rattle.std.specs.Prelude.{◌≡◌, ◌&&◌};
 ghost use Rattle.address_regions.specs.Same.{same_region};
-ghost use Rattle.domain_laws.specs.Made.{values_of};
 ghost use Rattle.partitioned_memory.specs.Areas.{same_area};
-ghost use Rattle.partitioned_memory.specs.Held.{interval_of_fact, interval_of_dirty, is_at, count_before, counted_again, counts_below, fact_given, is_below, is_stack_below, lies_in_one};
+ghost use Rattle.partitioned_memory.specs.Held.{dirty_at, fact_at, pair_of_dirty, pair_of_fact, spot_at, interval_of_fact, interval_of_dirty, count_before, counted_again, counts_below, is_stack_below, lies_in_one};
 
 use crate::area::{Area, Interval};
 use address_regions::Region;
 use bit_words::Width;
-use domain_laws::Domain;
 use std::cmp::Ordering;
 
 /// What is known of the bytes at one place: they are a number, lowest byte first, for which a value stands.
@@ -17,6 +15,13 @@ pub struct Fact<D> {
     pub area: Area,
     /// The offset of the first byte.
     pub low: i64,
+    pub w: Width,
+    pub value: D,
+}
+
+/// What a fact says of the bytes from a spot on.
+#[derive(Clone, Copy, Debug, PartialEq, Eq)]
+pub struct Held<D> {
     pub w: Width,
     pub value: D,
 }
@@ -37,11 +42,48 @@ pub struct Counted {
     pub many: bool,
 }
 
-/// An offset in an area.
-#[derive(Clone, Copy, Debug, PartialEq, Eq, Hash)]
+/// An offset in an area. Spots are ordered by area and then by offset.
+#[derive(Clone, Copy, Debug, PartialEq, Eq, PartialOrd, Ord, Hash)]
 pub struct Spot {
     pub area: Area,
     pub low: i64,
+}
+
+impl Spot {
+    pub(crate) fn at(area: Area, low: i64) -> Spot
+        ensures { result ≡ spot_at area low }
+    {
+        Spot { area, low }
+    }
+}
+
+impl<D: Copy> Fact<D> {
+    /// The fact of a spot.
+    pub(crate) fn at(pair: &(Spot, Held<D>)) -> Fact<D>
+        ensures { result ≡ fact_at pair.now }
+    {
+        Fact {
+            area: pair.0.area,
+            low: pair.0.low,
+            w: pair.1.w,
+            value: pair.1.value,
+        }
+    }
+
+    /// Its spot, and what it says of the bytes from there on.
+    pub(crate) fn pair(self) -> (Spot, Held<D>)
+        ensures { result ≡ pair_of_fact self }
+    {
+        let spot = Spot {
+            area: self.area,
+            low: self.low,
+        };
+        let held = Held {
+            w: self.w,
+            value: self.value,
+        };
+        (spot, held)
+    }
 }
 
 impl<D> Fact<D> {
@@ -49,21 +91,6 @@ impl<D> Fact<D> {
         ensures { result ≡ interval_of_fact self.now }
     {
         Interval::at(self.area, self.low, i64::from(self.w.bytes()))
-    }
-
-    /// Whether it is that of a spot and a width.
-    #[tactic(auto, unfolding(crate::specs::Areas::same_area))]
-    pub(crate) fn is_at(&self, area: Area, low: i64, w: Width) -> bool
-        ensures { result ≡ is_at area low w self.now }
-    {
-        self.area == area && (self.low == low && self.w.bytes() == w.bytes())
-    }
-
-    #[tactic(auto, unfolding(crate::specs::Areas::same_area))]
-    pub(crate) fn is_in(&self, area: Area) -> bool
-        ensures { result ≡ same_area self.now.area area }
-    {
-        self.area == area
     }
 
     /// Whether it is of the stack and has a byte below an offset.
@@ -75,30 +102,29 @@ impl<D> Fact<D> {
     }
 }
 
-impl<D: Domain> Fact<D> {
-    /// The fact, with the value of another where that is of the same spot and width.
-    pub(crate) fn given(self, new: Fact<D>) -> Fact<D>
-        ensures { result ≡ fact_given new.area new.low new.w new.value self }
+impl Dirty {
+    /// The dirty range of a spot.
+    pub(crate) fn at(pair: &(Spot, i64)) -> Dirty
+        ensures { result ≡ dirty_at pair.now }
     {
-        if self.is_at(new.area, new.low, new.w) {
-            Fact {
-                value: new.value,
-                ..self
-            }
-        } else {
-            self
+        Dirty {
+            area: pair.0.area,
+            low: pair.0.low,
+            size: pair.1,
         }
     }
 
-    /// Whether another is of its spot and width, and of a value below its own.
-    pub(crate) fn is_above(&self, other: &Fact<D>) -> bool
-        ensures { result ≡ is_below (values_of D.Domain.own D.eq) self.now other.now }
+    /// Its spot, and its size.
+    pub(crate) fn pair(self) -> (Spot, i64)
+        ensures { result ≡ pair_of_dirty self }
     {
-        other.is_at(self.area, self.low, self.w) && other.value.leq(self.value)
+        let spot = Spot {
+            area: self.area,
+            low: self.low,
+        };
+        (spot, self.size)
     }
-}
 
-impl Dirty {
     pub(crate) fn interval(self) -> Interval
         ensures { result ≡ interval_of_dirty self }
     {

@@ -1,11 +1,15 @@
-ghost use Rattle.std.specs.Prelude.{◌≡◌, ◌<◌, ◌/◌, ◌%◌, ◌^◌, find, pos, unsigned_abs, ◌+ℤ◌, ◌-ℤ◌, ◌≤ℤ◌, ◌<ℤ◌};
+ghost use Rattle.std.specs.Prelude.{◌≡◌, ◌<◌, ◌/◌, ◌%◌, ◌^◌, find, is_some, map, not, pos, unsigned_abs, ◌+ℤ◌, ◌-ℤ◌, ◌≤ℤ◌, ◌<ℤ◌};
 ghost use Rattle.domain_laws.specs.Made.{values_of};
-ghost use Rattle.partitioned_memory.specs.Held.{fact_before};
-ghost use Rattle.partitioned_memory.specs.KnownBytes.{byte_held, byte_of_fact, facts_near, is_number_at};
+ghost use Rattle.std.specs.Option.{option_map};
+ghost use Rattle.partitioned_memory.specs.Leaves.{unless};
+ghost use Rattle.partitioned_memory.specs.Held.{fact_at, fact_before};
+ghost use Rattle.partitioned_memory.specs.KnownBytes.{byte_held, byte_of_fact, is_number_at};
 ghost use Rattle.partitioned_memory.specs.Lists.{Ascends};
 
 use crate::area::{Area, Interval};
-use crate::fact::Fact;
+use crate::fact::{Fact, Held, Spot};
+use crate::spots::Spots;
+use crate::stretches::Meeting;
 use domain_laws::Domain;
 
 // A byte of a number, counted from its lowest one.
@@ -33,11 +37,10 @@ fn distance(low: i128, o: i64) -> u32
 }
 
 impl<D: Domain> Fact<D> {
-    // Whether it has a byte of the image, and is of a number.
-    fn is_number_at(&self, o: i64) -> bool
-        ensures { result ≡ is_number_at (values_of D.Domain.own D.eq) o self.now }
+    fn is_number(&self) -> bool
+        ensures { result ≡ is_some (D.number_of self.now.value) }
     {
-        self.interval().has(Area::Image, o) && self.value.number_of().is_some()
+        self.value.number_of().is_some()
     }
 
     // Its byte at an offset, where it is of a number.
@@ -54,22 +57,26 @@ impl<D: Domain> Fact<D> {
     }
 }
 
-// The fact of a number that has a byte of the image, among those that do not lie past it.
-fn number_at<D: Domain>(facts: &[Fact<D>], o: i64) -> Option<Fact<D>>
-    ensures { result ≡ find (is_number_at (values_of D.Domain.own D.eq) o) (facts_near o facts.now) }
+// A fact, where it is of a number.
+fn if_number<D: Domain>(pair: Option<(Spot, Held<D>)>) -> Option<Fact<D>>
+    ensures { result ≡ option_map fact_at (unless (λ p. not (is_some (D.number_of p.1.value))) pair) }
 {
-    let own = Interval::at(Area::Image, o, 1);
-    facts
-        .iter()
-        .copied()
-        .take_while(|f| !own.is_before(f.interval()))
-        .find(|f| f.is_number_at(o))
+    let f = Fact::at(&pair?);
+    if f.is_number() { Some(f) } else { None }
+}
+
+// The fact of a number that has a byte of the image.
+fn number_at<D: Domain>(facts: &Spots<Held<D>>, o: i64) -> Option<Fact<D>>
+    requires { Ascends fact_before (map fact_at facts.now) }
+    ensures { result ≡ find (is_number_at (values_of D.Domain.own D.eq) o) (map fact_at facts.now) }
+{
+    if_number(facts.first_in(&Meeting(Interval::at(Area::Image, o, 1))))
 }
 
 /// The byte of the image that a fact of a number says.
-pub(crate) fn byte_held<D: Domain>(facts: &[Fact<D>], o: i64) -> Option<u8>
-    requires { Ascends fact_before facts.now }
-    ensures { result ≡ byte_held (values_of D.Domain.own D.eq) o facts.now }
+pub(crate) fn byte_held<D: Domain>(facts: &Spots<Held<D>>, o: i64) -> Option<u8>
+    requires { Ascends fact_before (map fact_at facts.now) }
+    ensures { result ≡ byte_held (values_of D.Domain.own D.eq) o (map fact_at facts.now) }
 {
     match number_at(facts, o) {
         Some(f) => f.byte(o),

@@ -11,9 +11,14 @@ mod fact_list;
 mod held_byte;
 mod known;
 mod laws;
+mod leaf;
 mod parts;
+mod spots;
+mod stretch;
+mod stretches;
 
 pub use area::Area;
-pub use fact::{Counted, Dirty, Fact, Spot};
+pub use fact::{Counted, Dirty, Fact, Held, Spot};
 pub use laws::{calls_are_right, spread_is_apart};
 pub use parts::Parts;
+pub use spots::Spots;

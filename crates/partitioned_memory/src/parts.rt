@@ -5,19 +5,21 @@ ghost use Rattle.memory_map.specs.Map.{range_of};
 ghost use Rattle.address_regions.specs.Extents.{has_one_base};
 ghost use Rattle.domain_laws.specs.Made.{values_of};
 ghost use Rattle.partitioned_memory.specs.Areas.{IsInside, block_in, interval_at, interval_to};
-ghost use Rattle.partitioned_memory.specs.Held.{after_block, after_exact, after_fact, after_forgetting, after_inside, after_interval, covers_held, nothing_held, read_of};
+ghost use Rattle.partitioned_memory.specs.Held.{after_block, after_exact, after_fact, after_forgetting, after_inside, after_interval, covers_held, nothing_held, pair_of_dirty, pair_of_fact, read_of};
 ghost use Rattle.partitioned_memory.specs.KnownBytes.{known_image_byte};
 ghost use Rattle.partitioned_memory.specs.Well.{HasCount, MayHold, IsWell};
 
 use crate::area::{Area, Interval};
 use crate::count_list::{count_more, cover_counts};
 use crate::dirty_list::{dirty_after, hold_dirty};
-use crate::fact::{Counted, Dirty, Fact};
+use crate::fact::{Counted, Dirty, Fact, Held};
 use crate::fact_list::{
-    cover_facts, facts_beside, facts_not_below, facts_off, facts_put, facts_with, found,
+    cover_facts, facts_beside, facts_not_below, facts_of, facts_off, facts_put, facts_written,
+    found,
 };
 use crate::held_byte::byte_held;
 use crate::known::Known;
+use crate::spots::Spots;
 use address_regions::Region;
 use bit_words::{NoMemory, Width};
 use domain_laws::Domain;
@@ -33,21 +35,22 @@ use std::marker::Model;
 /// After a call answered want of memory the parts are as they were.
 #[derive(Drop)]
 pub struct Parts<D: Domain> {
-    facts: Vec<Fact<D>>,
-    dirty: Vec<Dirty>,
+    facts: Spots<Held<D>>,
+    dirty: Spots<i64>,
     blocks: Vec<Counted>,
 }
 
 impl<D: Domain> Model for Parts<D> {
     ghost use Rattle.domain_laws.specs.Made.{values_of};
-    ghost use Rattle.partitioned_memory.specs.Held.{PartsHeld};
+    ghost use Rattle.std.specs.Prelude.{map};
+    ghost use Rattle.partitioned_memory.specs.Held.{PartsHeld, dirty_at, fact_at};
     ghost use Rattle.partitioned_memory.specs.Well.{IsWell};
 
     ghost Value = { PartsHeld D };
 
-    ghost view = { λ p. record { facts = p.facts.items; dirty = p.dirty.items; blocks = p.blocks.items } };
+    ghost view = { λ p. record { facts = map fact_at p.facts; dirty = map dirty_at p.dirty; blocks = p.blocks.items } };
 
-    ghost invariant = { λ p. IsWell (values_of D.Domain D.eq) (record { facts = p.facts.items; dirty = p.dirty.items; blocks = p.blocks.items }) };
+    ghost invariant = { λ p. IsWell (values_of D.Domain D.eq) (record { facts = map fact_at p.facts; dirty = map dirty_at p.dirty; blocks = p.blocks.items }) };
 }
 
 impl<D: Domain> Parts<D> {
@@ -56,14 +59,14 @@ impl<D: Domain> Parts<D> {
         ensures { result ≡ nothing_held }
     {
         Parts {
-            facts: Vec::new(alloc),
-            dirty: Vec::new(alloc),
+            facts: Spots::empty(alloc),
+            dirty: Spots::empty(alloc),
             blocks: Vec::new(alloc),
         }
     }
 
     fn alloc(&self) -> Global {
-        *self.facts.allocator()
+        *self.blocks.allocator()
     }
 
     /// The same parts again.
@@ -72,8 +75,8 @@ impl<D: Domain> Parts<D> {
     {
         let alloc = self.alloc();
         Ok(Parts {
-            facts: Vec::from_slice(alloc, &self.facts)?,
-            dirty: Vec::from_slice(alloc, &self.dirty)?,
+            facts: self.facts.copy()?,
+            dirty: self.dirty.copy()?,
             blocks: Vec::from_slice(alloc, &self.blocks)?,
         })
     }
@@ -132,7 +135,6 @@ impl<D: Domain> Parts<D> {
         ensures ok { OnOk result (self.new ≡ after_exact (values_of D.Domain.own D.eq) area low w v self.old) }
         ensures err { OnErr result (self.new ≡ self.old) }
     {
-        let alloc = self.alloc();
         let f = Fact {
             area,
             low,
@@ -140,9 +142,8 @@ impl<D: Domain> Parts<D> {
             value: v,
         };
         let own = f.interval();
-        let others = facts_off(alloc, &self.facts, own)?;
-        let facts = facts_with(others, f, &self.blocks)?;
-        let dirty = dirty_after(alloc, &self.dirty, own)?;
+        let facts = facts_written(&self.facts, f, &self.blocks)?;
+        let dirty = dirty_after(&self.dirty, own)?;
         self.facts = facts;
         self.dirty = dirty;
         Ok(())
@@ -170,9 +171,8 @@ impl<D: Domain> Parts<D> {
         ensures ok { OnOk result (self.new ≡ after_interval written self.old) }
         ensures err { OnErr result (self.new ≡ self.old) }
     {
-        let alloc = self.alloc();
-        let facts = facts_off(alloc, &self.facts, written)?;
-        let dirty = dirty_after(alloc, &self.dirty, written)?;
+        let facts = facts_off(&self.facts, written)?;
+        let dirty = dirty_after(&self.dirty, written)?;
         self.facts = facts;
         self.dirty = dirty;
         Ok(())
@@ -183,7 +183,7 @@ impl<D: Domain> Parts<D> {
         ensures ok { OnOk result (self.new ≡ after_forgetting high self.old) }
         ensures err { OnErr result (self.new ≡ self.old) }
     {
-        let facts = facts_not_below(self.alloc(), &self.facts, high)?;
+        let facts = facts_not_below(&self.facts, high)?;
         self.facts = facts;
         Ok(())
     }
@@ -194,19 +194,25 @@ impl<D: Domain> Parts<D> {
         ensures ok { OnOk result (self.new ≡ after_block region self.old) }
         ensures err { OnErr result (self.new ≡ self.old) }
     {
-        let alloc = self.alloc();
-        let facts = facts_beside(alloc, &self.facts, region, &self.blocks)?;
-        let blocks = count_more(alloc, &self.blocks, region)?;
+        let facts = facts_beside(&self.facts, region, &self.blocks)?;
+        let blocks = count_more(self.alloc(), &self.blocks, region)?;
         self.facts = facts;
         self.blocks = blocks;
         Ok(())
     }
 
-    /// The facts, in order.
-    pub fn facts(&self) -> &[Fact<D>]
-        ensures { result.now ≡ self.now.facts }
+    /// The facts by their spots.
+    pub fn fact_spots(&self) -> &Spots<Held<D>>
+        ensures { result.now ≡ map pair_of_fact self.now.facts }
     {
-        self.facts.as_slice()
+        &self.facts
+    }
+
+    /// The dirty ranges' sizes by their spots.
+    pub fn dirty_spots(&self) -> &Spots<i64>
+        ensures { result.now ≡ map pair_of_dirty self.now.dirty }
+    {
+        &self.dirty
     }
 
     /// The facts again, in order.
@@ -214,7 +220,7 @@ impl<D: Domain> Parts<D> {
         ensures facts { IfOk result (λ copy. copy.items ≡ self.now.facts) }
         ensures well { IsWell (values_of D.Domain.own D.eq) self.now }
     {
-        Ok(Vec::from_slice(self.alloc(), &self.facts)?)
+        facts_of(self.alloc(), &self.facts)
     }
 
     /// The i-th fact, counted from 0.
@@ -222,7 +228,7 @@ impl<D: Domain> Parts<D> {
         ensures value { result ≡ slice_get self.now.facts i }
         ensures well { IsWell (values_of D.Domain.own D.eq) self.now }
     {
-        self.facts.get(i).copied()
+        self.facts.nth(i).map(|pair| Fact::at(&pair))
     }
 
     /// The i-th dirty range, counted from 0.
@@ -230,7 +236,7 @@ impl<D: Domain> Parts<D> {
         ensures value { result ≡ slice_get self.now.dirty i }
         ensures well { IsWell (values_of D.Domain.own D.eq) self.now }
     {
-        self.dirty.get(i).copied()
+        self.dirty.nth(i).map(|pair| Dirty::at(&pair))
     }
 
     /// The i-th region with a count, counted from 0.
@@ -247,14 +253,13 @@ impl<D: Domain> Parts<D> {
         ensures ok { OnOk result (self.new ≡ after_fact (values_of D.Domain.own D.eq) area low w v self.old) }
         ensures err { OnErr result (self.new ≡ self.old) }
     {
-        let alloc = self.alloc();
         let new = Fact {
             area,
             low,
             w,
             value: v,
         };
-        let facts = facts_put(alloc, &self.facts, new)?;
+        let facts = facts_put(&self.facts, new)?;
         self.facts = facts;
         Ok(())
     }

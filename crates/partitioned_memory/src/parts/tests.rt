@@ -7,6 +7,7 @@ ghost use Rattle.partitioned_memory.specs.Well.{FitsWidth, HasCount, MayHold};
 
 use super::*;
 use crate::count_list::is_counted;
+use crate::fact::Spot;
 use domain_laws::{FlatNumbers, Reach};
 use memory_map::{Bytes, Perm, Segment, Span};
 use std::process::Abort;
@@ -969,6 +970,25 @@ fn what_covers_what(rt: HostRuntime) -> Result<(), Fail> {
         let lower = after(&rt, alloc, &s, name)?;
         assert!(rt; upper.covers(&lower) == want, "{name}");
         assert!(rt; upper.copy()?.covers(&lower) == want, "a copy for {name}");
+    }
+    Ok(())
+}
+
+#[test]
+fn facts_and_ranges_by_their_spots(rt: HostRuntime) -> Result<(), Fail> {
+    let mut parts: Parts<FlatNumbers> = Parts::new(rt.alloc());
+    put_exact(&rt, &mut parts, IMAGE, 0x2004, B16, num(7))?;
+    put_exact(&rt, &mut parts, STACK, -8, B32, num(9))?;
+    for (area, low, held, size) in [
+        (IMAGE, 0x2004, Some((B16, num(7))), Some(2)),
+        (IMAGE, 0x2005, None, None),
+        (STACK, -8, Some((B32, num(9))), None),
+        (FS, -8, None, None),
+    ] {
+        let at = Spot { area, low };
+        let found = parts.fact_spots().get(&at).map(|h| (h.w, h.value));
+        assert!(rt; found == held, "the fact at {low}");
+        assert!(rt; parts.dirty_spots().get(&at) == size, "the range at {low}");
     }
     Ok(())
 }

@@ -1,4 +1,4 @@
-use Rattle.std.proofs.Common.{◌≡◌, sym, ◌∙◌, ap, subst}
+use Rattle.std.proofs.Common.{sym, ap, subst}
 use Rattle.domain_laws.specs.Made.{values_of}
 use Rattle.partitioned_memory.specs.Well.{IsWell, MayHold}
 use Rattle.partitioned_memory.proofs.Holding.{any-holds, found-held, number-holds}
@@ -8,7 +8,7 @@ pub returns-in-Some-clause-holds : goal.returns-in-Some-clause-holds
 returns-in-Some-clause-holds g c =
     let d = values_of g.D.Domain g.D.PartialEq.eq in
     let well = subst (IsWell d) c.self.view_is c.self.invariant in
-    found-held d _ _ _ _ _ _ _ well.facts (c.deref-2.ensures.value ∙ ap (λ h. h.facts) c.self.view_is) c.in-Some.ensures
+    found-held d _ _ _ _ _ _ _ well.facts (ap (λ h. h.facts) c.self.view_is) c.in-Some.ensures
 
 pub returns-in-Some-number-clause-holds : goal.returns-in-Some-number-clause-holds
 returns-in-Some-number-clause-holds g c =
