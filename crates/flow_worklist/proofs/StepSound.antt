@@ -132,6 +132,15 @@ module _ {D : Type 0} (d : Values D) (l : IsLawful d) (image : Image) (stubs : S
   fetches i n found = decoded_agrees (fetched m) bytes_there i n found
       (λ few within. run_agrees (code_at (memory m)) LONGEST_INSTRUCTION n m.eip bytes_there few within (record { byte = λ j less. byte_there d l image s p m h j (omega arith) }))
 
+  -- so what it fetches is what the row knows
+  fetched_as : (i : Instr) (n : ℕ) → site_at image m.eip ≡ Code → decoded (fetched m) ≡ Some (i, n) → IsFetchedAs d image s m i n
+  fetched_as i n at found =
+      let known : HasInstr = instr_of (decoded bytes_there) refl at in
+      let there = fetches known.instr known.size known.found in
+      let same : Some (known.instr, known.size) ≡ Some (i, n) = sym there.0 ∙ found in
+      let Is : Instr × ℕ → Type 0 = λ q. IsFetchedAs d image s m q.0 q.1 in
+      subst Is (some-injective same) (record { decodes = known.found; bytes = there.1 })
+
   -- a step that leads somewhere does that instruction
   record IsDoing (choice : Choice) : Type 0 where
     instr : Instr
@@ -264,3 +273,9 @@ analysis_sound d l image stubs k loads = record {
   widen = λ seen s m well h. (h.0, covering-is_sound d l image (widened_by d k seen s) s h.0 m (widening-is_sound d l k (seen_of d seen) s well) h.1);
   step = λ s m next well h causes steps. any_found d l image stubs loads k s h.0 m next well h.1 causes steps.0 (step_is image stubs steps.0 m next steps.1);
 }
+
+pub code-is_fetched : {D : Type 0} (d : Values D) (l : IsLawful d) (image : Image) (stubs : StatedStubs) (k : ℕ) (s : Known D) (p : Places) (m : MachineState) (i : Instr) (n : ℕ)
+    → Describes d image s p m → (post d image stubs k m.eip s).causes ≡ [] → site_at image m.eip ≡ Code → decoded (fetched m) ≡ Some (i, n) → IsFetchedAs d image s m i n
+code-is_fetched d l image stubs k s p m i n h none at found =
+    let Held : List Cause → Type 0 = λ causes. (c : Cause) → Contains causes c → ⊥ in
+    fetched_as d l image stubs k s p m h (subst Held (sym none) (λ c held. Contains-none c held)) i n at found

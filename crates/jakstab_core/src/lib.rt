@@ -26,6 +26,8 @@ mod recover;
 mod sample_files;
 #[cfg(test)]
 mod sample_tests;
+#[cfg(test)]
+mod second_list_tests;
 mod status;
 mod summary;
 #[cfg(test)]
