@@ -1,7 +1,7 @@
 -- The analysis of an image is sound for the machine that runs it, over every domain.
 use Rattle.std.proofs.Common.{◌≡◌, ℕ, ◌+◌, ◌<◌, Bool, true, false, List, [], ◌∷◌, length, take, get_or, Option, Some, None, refl, sym, ◌∙◌, ap, subst, ◌==◌, inl, inr, arith}
 use Rattle.std.specs.Prelude.{Contains, Result, Ok, Err, MatchBool, slice_get, ◌⊎◌}
-use Rattle.std.proofs.lemmas.Option.{slice_get-get_or}
+use Rattle.std.proofs.lemmas.Option.{same_Some, slice_get-get_or}
 use Rattle.address_regions.specs.Places.{Places}
 use Rattle.domain_laws.specs.Laws.{Values, IsLawful}
 use Rattle.memory_map.specs.declared.choice.Choice.{Choice}
@@ -43,6 +43,7 @@ use Rattle.flow_worklist.specs.declared.site.Site.TheVariants.{Exit, Import, Cod
 use Rattle.transfer_functions.specs.Fetching.{is_cut, known_run}
 use Rattle.flow_worklist.specs.Post.{post, site_at, unlisted_cause}
 use Rattle.flow_worklist.specs.Analysis.{analysis_of, edge_from, widened_by}
+use Rattle.flow_worklist.specs.Laws.{IsFetchedAs}
 use Rattle.flow_worklist.proofs.Posting.{no_pair, expand-named, expand-unnamed, site-code, site-import, post_is, post_code_is}
 use Rattle.flow_worklist.proofs.Fetching.{run_agrees, decoded_agrees}
 
@@ -139,7 +140,7 @@ module _ {D : Type 0} (d : Values D) (l : IsLawful d) (image : Image) (stubs : S
       let there = fetches known.instr known.size known.found in
       let same : Some (known.instr, known.size) ≡ Some (i, n) = sym there.0 ∙ found in
       let Is : Instr × ℕ → Type 0 = λ q. IsFetchedAs d image s m q.0 q.1 in
-      subst Is (some-injective same) (record { decodes = known.found; bytes = there.1 })
+      subst Is (same_Some (known.instr, known.size) (i, n) same) (record { decodes = known.found; bytes = there.1 })
 
   -- a step that leads somewhere does that instruction
   record IsDoing (choice : Choice) : Type 0 where
