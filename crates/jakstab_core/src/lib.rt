@@ -23,6 +23,9 @@ mod list_tests;
 mod memory_tests;
 mod recover;
 #[cfg(test)]
+mod run_tests;
+mod running;
+#[cfg(test)]
 mod sample_files;
 #[cfg(test)]
 mod sample_tests;
