@@ -3,6 +3,8 @@ use Rattle.std.proofs.Common.{◌≡◌, ℕ, ◌<◌, ◌≤◌, ◌⊎◌, Boo
 use Rattle.outside_io.specs.Outside.{Contents, Rose}
 use Rattle.memory_map.specs.Image.{Image}
 use Rattle.stub_file.specs.Stubs.{StatedStubs, States}
+use Rattle.automaton_text.specs.declared.automaton.Automaton.{Automaton}
+use Rattle.automaton_text.specs.Reading.{automaton_read}
 use Rattle.image_loader.specs.Loading.{LaidOut, load_of}
 use Rattle.demo_images.specs.Demo.{demo_stubs}
 use Rattle.jakstab_core.specs.declared.status.Input.TheVariants as inputs
@@ -10,7 +12,7 @@ use Rattle.jakstab_core.specs.declared.status.Status.{Status}
 use Rattle.jakstab_core.specs.declared.work.Work.{Work}
 use Rattle.command_words.specs.Words.{Command}
 use Rattle.std.specs.Prelude.{Ok}
-use Rattle.jakstab_core.specs.Inputs.{Reading, Origin, File, Made, Source, StubFile, IsFaulty, IsFine, IsUnread, IsRefusedAt, AreRefused, OfBytes, image_of, stubs_of, image_source, stub_source, stub_sources, further_sources, sources_of, limit_of}
+use Rattle.jakstab_core.specs.Inputs.{Reading, Origin, File, Made, Source, StubFile, IsFaulty, IsFine, IsUnread, IsRefusedAt, AreRefused, OfBytes, image_of, stubs_of, automaton_source, image_source, record_source, stub_source, stub_sources, further_sources, sources_of, limit_of}
 use Rattle.jakstab_core.specs.Tasks.{Prepared, AreStubs, IsWork, IsOutput, IsStartRefused}
 use Rattle.jakstab_core.specs.Says.{IsCommandRefused, IsStartless, IsTextOf}
 use Rattle.jakstab_core.specs.Due.{OfImage, OrMemory}
@@ -60,7 +62,13 @@ module _ (r : Reading) where
   refused_behind : (origin : Option Origin) (stubs : StatedStubs) → AreStubs r.held origin stubs → (others : List Source) (status : Status) → AreRefused r others status
       → AreRefused r (stub_sources origin ++ others) status
   refused_behind None stubs stated others status why = why
-  refused_behind (Some origin) stubs stated others status why = inr ((stated.0, stated.1, (stubs, stated.2)), why)
+  refused_behind (Some origin) stubs stated others status why = inr ((stated.0, stated.1.0, (stubs, stated.1.1)), why)
+
+  -- the automaton is fine, and the record is refused, of which the shelf was asked later
+  pub record_refused_later : (later : Reading) → IsLater r later → (automaton taken : List ℕ) (a : Automaton) → OfBytes r.held (limit_of inputs.First) (File automaton) (λ text. automaton_read text ≡ Ok a)
+      → (status : Status) → OrMemory (IsRefusedAt later (record_source taken)) status → OrMemory (AreRefused r (automaton_source automaton ∷ record_source taken ∷ [])) status
+  record_refused_later later is automaton taken a told status (inl memory) = inl memory
+  record_refused_later later is automaton taken a told status (inr why) = inr (inr ((told.0, told.1, (a, told.2)), inl (refused_later r later is (record_source taken) status why)))
 
 -- ---- a command
 
@@ -101,9 +109,9 @@ module _ (r : Reading) (command : Command) where
           due = due;
         }
 
-        pub text_found : (text : List ℕ) (no : Bool) → OfImage laid_out stubs (λ there. IsOutput work stubs there text no) → IsTextOf r.held command text no
+        pub text_found : (text : List ℕ) (refuted : Bool) → OfImage laid_out stubs (λ there. IsOutput work stubs there text refuted) → IsTextOf r.held command text refuted
         unfolding prepared
-        text_found text no found = record { prepared = prepared found.image found; is = found.fact }
+        text_found text refuted found = record { prepared = prepared found.image found; is = found.fact }
 
         startless : (status : Status) → OfImage laid_out stubs (λ there. IsStartRefused work there status) → IsStartless r.held command status
         unfolding prepared

@@ -3,3 +3,4 @@ pub mod Covering
 pub mod Printing
 pub mod Saying
 pub mod Finding
+pub mod Starting

@@ -21,14 +21,14 @@ use Rattle.jakstab_core.specs.Due.{IsDelivered, OrMemory}
 use Rattle.jakstab_core.proofs.Covering.{text_covers}
 
 -- the text of work says of the machine's runs what it is to say
-covers_of : (work : Work) (stubs : StatedStubs) (image : Image) (text : List ℕ) (no : Bool) → IsLoaded image → IsOutput work stubs image text no → Covers work stubs image text
-covers_of (works.Recover options version) stubs image text no loaded is =
+covers_of : (work : Work) (stubs : StatedStubs) (image : Image) (text : List ℕ) (refuted : Bool) → IsLoaded image → IsOutput work stubs image text refuted → Covers work stubs image text
+covers_of (works.Recover options version) stubs image text refuted loaded is =
     let P : List ℕ → Type 0 = CoversRuns image stubs in subst P (sym is.0) (text_covers image stubs loaded options version)
-covers_of works.List stubs image text no loaded is = tt
-covers_of (works.Decode address count) stubs image text no loaded is = tt
-covers_of (works.Run start steps) stubs image text no loaded is = tt
-covers_of (works.Replay automaton taken) stubs image text no loaded is = tt
-covers_of (works.Summarize blocks options) stubs image text no loaded is = tt
+covers_of works.List stubs image text refuted loaded is = tt
+covers_of (works.Decode address count) stubs image text refuted loaded is = tt
+covers_of (works.Run start steps) stubs image text refuted loaded is = tt
+covers_of (works.Replay automaton taken) stubs image text refuted loaded is = tt
+covers_of (works.Summarize blocks options) stubs image text refuted loaded is = tt
 
 -- ---- which statuses tell of an input or of work on it
 
@@ -224,14 +224,14 @@ refused_says (StubsRefused n) a out why same = (why, same)
 refused_says (InputRefused line kind) a out why same = (why, same)
 
 -- what is due, delivered
-due_as : (a : Call) (text : List ℕ) (no told : Bool) → no ≡ told → IsDue a text no → IsDue a text told
-due_as a text no told is due = let P : Bool → Type 0 = IsDue a text in subst P is due
+due_as : (a : Call) (text : List ℕ) (refuted told : Bool) → refuted ≡ told → IsDue a text refuted → IsDue a text told
+due_as a text refuted told is due = let P : Bool → Type 0 = IsDue a text in subst P is due
 
 pub delivered_says : (due : Result Output Status) (status : Status) (a : Call) (out : Gain)
     → MatchResult due (λ o. IsDue a o.text.items o.is_no) (λ refusal. IsRefused refusal a) → IsDelivered due status out → Says status a out
 delivered_says (Ok o) Done a out due given = done_says a out o.text.items (due_as a o.text.items o.is_no false given.0 due) given.1
 delivered_says (Ok o) VerdictNo a out due given = record { text = o.text.items; due = due_as a o.text.items o.is_no true given.0 due; gained = given.1 }
-delivered_says (Ok o) WriteFault a out due given = record { rose = given.0; text = o.text.items; no = o.is_no; due = due; part = given.1 }
+delivered_says (Ok o) WriteFault a out due given = record { rose = given.0; text = o.text.items; refuted = o.is_no; due = due; part = given.1 }
 delivered_says (Ok o) Usage a out due given = absurd given
 delivered_says (Ok o) (ReadFault input) a out due given = absurd given
 delivered_says (Ok o) (TooLong input) a out due given = absurd given

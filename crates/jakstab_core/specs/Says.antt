@@ -29,12 +29,12 @@ pub record OfCommand (a : Call) (Fact : Command → Type 0) : Type 0 where
 -- ---- what is written
 
 -- a command's inputs are accepted, and this is what it writes of them, and whether that says no
-pub record IsTextOf (held : Option Contents) (command : Command) (text : List ℕ) (no : Bool) : Type 0 where
+pub record IsTextOf (held : Option Contents) (command : Command) (text : List ℕ) (refuted : Bool) : Type 0 where
   pub prepared : Prepared held command
-  pub is : IsOutput prepared.work prepared.stubs prepared.image text no
+  pub is : IsOutput prepared.work prepared.stubs prepared.image text refuted
 
 abbrev pub IsDue : Call → List ℕ → Bool → Type 0
-IsDue a text no = OfCommand a (λ command. IsTextOf a.shelf.held command text no)
+IsDue a text refuted = OfCommand a (λ command. IsTextOf a.shelf.held command text refuted)
 
 -- `out` gained exactly the command's text
 pub record SaysDone (a : Call) (out : Gain) : Type 0 where
@@ -53,8 +53,8 @@ pub record SaysVerdictNo (a : Call) (out : Gain) : Type 0 where
 pub record SaysWriteFault (a : Call) (out : Gain) : Type 0 where
   pub rose : Rose out.faults_before out.faults_after
   pub text : List ℕ
-  pub no : Bool
-  pub due : IsDue a text no
+  pub refuted : Bool
+  pub due : IsDue a text refuted
   pub part : GainedPrefix out.before out.after text
 
 -- ---- why a call is refused before anything is written

@@ -84,16 +84,16 @@ IsRunText image stubs start steps text = (taken : RunRecord) × RecordOf image s
 
 -- the line of the verdict of a record replayed against an automaton, and whether it is no
 abbrev pub IsVerdictText : Image → StatedStubs → Automaton → RunRecord → List ℕ → Bool → Type 0
-IsVerdictText image stubs automaton taken text no = (verdict : Verdict) × VerdictOf image stubs automaton taken verdict × (text ≡ verdict_line verdict) × (no ≡ is_no verdict)
+IsVerdictText image stubs automaton taken text refuted = (verdict : Verdict) × VerdictOf image stubs automaton taken verdict × (text ≡ verdict_line verdict) × (refuted ≡ is_no verdict)
 
 -- the text that is written, and whether it says no
 abbrev pub IsOutput : Work → StatedStubs → Image → List ℕ → Bool → Type 0
-IsOutput (works.Recover options version) stubs image text no = (text ≡ recovered_text image stubs options version) × (no ≡ false)
-IsOutput works.List stubs image text no = (text ≡ list_text stubs image) × (no ≡ false)
-IsOutput (works.Decode address count) stubs image text no = IsListing image address count text × (no ≡ false)
-IsOutput (works.Run start steps) stubs image text no = IsRunText image stubs start steps text × (no ≡ false)
-IsOutput (works.Replay automaton taken) stubs image text no = IsVerdictText image stubs automaton taken text no
-IsOutput (works.Summarize blocks options) stubs image text no = (text ≡ summary_of image stubs blocks options) × (no ≡ false)
+IsOutput (works.Recover options version) stubs image text refuted = (text ≡ recovered_text image stubs options version) × (refuted ≡ false)
+IsOutput works.List stubs image text refuted = (text ≡ list_text stubs image) × (refuted ≡ false)
+IsOutput (works.Decode address count) stubs image text refuted = IsListing image address count text × (refuted ≡ false)
+IsOutput (works.Run start steps) stubs image text refuted = IsRunText image stubs start steps text × (refuted ≡ false)
+IsOutput (works.Replay automaton taken) stubs image text refuted = IsVerdictText image stubs automaton taken text refuted
+IsOutput (works.Summarize blocks options) stubs image text refuted = (text ≡ summary_of image stubs blocks options) × (refuted ≡ false)
 
 -- what that text says of the machine's runs: no run leaves the automaton before a location printed open
 abbrev pub Covers : Work → StatedStubs → Image → List ℕ → Type 0

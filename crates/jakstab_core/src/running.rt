@@ -39,13 +39,13 @@ pub fn verdict_output(
     image: &Image,
     stubs: &Stubs,
     automaton: &Automaton,
-    record: &RunRecord,
+    taken: &RunRecord,
 ) -> Result<Output, Status>
-    requires fill { length record.now.start.fill < 2 ^ 32 }
-    requires steps { length record.now.steps < 2 ^ 32 }
-    ensures { MatchResult result (λ o. IsVerdictText image.now stubs.now automaton.now record.now o.text.items o.is_no) (OrMemory (IsUnstartable image.now record.now.start)) }
+    requires fill { length taken.now.start.fill < 2 ^ 32 }
+    requires steps { length taken.now.steps < 2 ^ 32 }
+    ensures { MatchResult result (λ o. IsVerdictText image.now stubs.now automaton.now taken.now o.text.items o.is_no) (OrMemory (IsUnstartable image.now taken.now.start)) }
 {
-    match replay(alloc, image, stubs, automaton, record) {
+    match replay(alloc, image, stubs, automaton, taken) {
         Ok(verdict) => match verdict_line(alloc, verdict) {
             Ok(text) => Ok(Output {
                 text,
