@@ -17,6 +17,7 @@ mod inputs;
 mod interval_tests;
 #[cfg(test)]
 mod known_code_tests;
+mod laws;
 #[cfg(test)]
 mod list_tests;
 #[cfg(test)]
@@ -36,5 +37,6 @@ mod tests;
 mod top;
 mod work;
 
+pub use laws::replays_find_edges;
 pub use status::{Input, Status};
 pub use top::jakstab;
