@@ -120,9 +120,12 @@ module _ {D : Type 0} (d : Values D) (lawful : IsLawful d) (image : Image) (stub
       → Follows (machine_of image stubs) (IsKnownTo d image log) (IsOpen analysis log) log.edges m states
       → Follows (machine_of image stubs) (λ m. ⊤) (Contains (open_of told)) told.edges m states
   inside m [] f = tt
-  inside m (next ∷ rest) f = (tt, λ shut.
-      let step = f.1 (λ at. shut (marked_open m.eip at)) in
-      (edge_there (edge_of image m next) step.0, inside next rest step.1))
+  inside m (next ∷ rest) f = (
+    tt,
+    λ shut.
+        let step = f.1 (λ at. shut (marked_open m.eip at)) in
+        (edge_there (edge_of image m next) step.0, inside next rest step.1),
+  )
 
   log_inside : (m : MachineState) (states : List MachineState) → Start image m → IsRun (machine_of image stubs) m states
       → Follows (machine_of image stubs) (λ m. ⊤) (Contains (open_of told)) told.edges m states

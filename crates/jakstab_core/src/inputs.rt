@@ -75,11 +75,7 @@ pub fn read_work<S: Shelf>(alloc: Global, shelf: &mut S, task: Task) -> Result<W
 }
 
 // What the start file of a name states.
-fn read_start_file<S: Shelf>(
-    alloc: Global,
-    shelf: &mut S,
-    name: &str,
-) -> Result<StartFile, Status>
+fn read_start_file<S: Shelf>(alloc: Global, shelf: &mut S, name: &str) -> Result<StartFile, Status>
     ensures read { MatchResult result (λ start. OfBytes (S.contents shelf.old) (limit_of inputs.First) (File name.now) (λ text. StatesStart text start)) (OrMemory (IsRefusedAt (record { held = S.contents shelf.old; faults_before = S.faults shelf.old; faults_after = S.faults shelf.new }) (start_source name.now))) }
     ensures few { IfOk result (λ start. length start.fill < 2 ^ 32) }
     ensures contents { S.contents shelf.new ≡ S.contents shelf.old }
@@ -110,11 +106,7 @@ fn read_automaton_file<S: Shelf>(
 }
 
 // What the record of a name states.
-fn read_record_file<S: Shelf>(
-    alloc: Global,
-    shelf: &mut S,
-    name: &str,
-) -> Result<RunRecord, Status>
+fn read_record_file<S: Shelf>(alloc: Global, shelf: &mut S, name: &str) -> Result<RunRecord, Status>
     ensures read { MatchResult result (λ taken. OfBytes (S.contents shelf.old) (limit_of inputs.Second) (File name.now) (λ text. StatesRecord text taken)) (OrMemory (IsRefusedAt (record { held = S.contents shelf.old; faults_before = S.faults shelf.old; faults_after = S.faults shelf.new }) (record_source name.now))) }
     ensures fill { IfOk result (λ taken. length taken.start.fill < 2 ^ 32) }
     ensures steps { IfOk result (λ taken. length taken.steps < 2 ^ 32) }

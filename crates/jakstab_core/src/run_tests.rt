@@ -65,7 +65,9 @@ const NO_DIGIT: &str = "jakstab-automaton 1\nentry 0804800\n";
 
 // The lines that start files and records have behind their first one.
 fn start_lines(alloc: Global, esp: &str, bases: &str) -> Result<String, AllocError> {
-    format!(in alloc; "regs 00000000 00000000 00000000 00000000 {esp} 00000000 00000000 00000000\nflags 000000\nbases {bases}\n")
+    format!(in alloc;
+        "regs 00000000 00000000 00000000 00000000 {esp} 00000000 00000000 00000000\nflags 000000\nbases {bases}\n"
+    )
 }
 
 // What the files are made of: the start's ESP, its bases and what follows them; an automaton; and the steps of a record.
@@ -156,17 +158,45 @@ const fn refused(line: u64, kind: u8) -> Status {
 fn runs_are_recorded_or_do_not_begin(rt: HostRuntime) -> Result<(), Fail> {
     let alloc = rt.alloc();
     let ten: &[&str] = &["run", "i", "t", "10"];
-    let unaligned = Files { esp: "BFFF0004", ..FILES };
-    let low = Files { esp: "00100000", ..FILES };
-    let meeting = Files { bases: "10000000 10001000", ..FILES };
-    let in_code = Files { rest: "fill 08048000 90\n", ..FILES };
-    let second = Files { rest: "fill 10000000 90\nfill 08048000 90\n", ..FILES };
-    let bad = Files { rest: "fill 10000000\n", ..FILES };
+    let unaligned = Files {
+        esp: "BFFF0004",
+        ..FILES
+    };
+    let low = Files {
+        esp: "00100000",
+        ..FILES
+    };
+    let meeting = Files {
+        bases: "10000000 10001000",
+        ..FILES
+    };
+    let in_code = Files {
+        rest: "fill 08048000 90\n",
+        ..FILES
+    };
+    let second = Files {
+        rest: "fill 10000000 90\nfill 08048000 90\n",
+        ..FILES
+    };
+    let bad = Files {
+        rest: "fill 10000000\n",
+        ..FILES
+    };
     let rows: [(&[&str], &Files, Status, &str); 14] = [
         (ten, &FILES, Status::Done, RECORD),
         (&["run", "i", "t", "2"], &FILES, Status::Done, RECORD_OF_TWO),
-        (&["run", "i", "--stubs", "s", "t", "1"], &FILES, Status::Done, RECORD_OF_ONE),
-        (&["run", "i", "t", "0"], &FILES, Status::Done, RECORD_OF_NONE),
+        (
+            &["run", "i", "--stubs", "s", "t", "1"],
+            &FILES,
+            Status::Done,
+            RECORD_OF_ONE,
+        ),
+        (
+            &["run", "i", "t", "0"],
+            &FILES,
+            Status::Done,
+            RECORD_OF_NONE,
+        ),
         (ten, &unaligned, refused(2, 11), ""),
         (ten, &low, refused(4, 12), ""),
         (ten, &meeting, refused(4, 13), ""),
@@ -175,8 +205,18 @@ fn runs_are_recorded_or_do_not_begin(rt: HostRuntime) -> Result<(), Fail> {
         (ten, &bad, refused(5, 3), ""),
         (&["run", "i", "r", "10"], &FILES, refused(1, 1), ""),
         (&["run", "i", "t", "1000001"], &FILES, Status::Usage, ""),
-        (&["run", "i", "x", "1"], &FILES, Status::ReadFault(Input::First), ""),
-        (&["run", "x", "t", "1"], &FILES, Status::ReadFault(Input::Image), ""),
+        (
+            &["run", "i", "x", "1"],
+            &FILES,
+            Status::ReadFault(Input::First),
+            "",
+        ),
+        (
+            &["run", "x", "t", "1"],
+            &FILES,
+            Status::ReadFault(Input::Image),
+            "",
+        ),
     ];
     for (words, files, want, text) in rows {
         check(&rt, alloc, words, files, want, text)?;
@@ -188,31 +228,80 @@ fn runs_are_recorded_or_do_not_begin(rt: HostRuntime) -> Result<(), Fail> {
 fn records_are_replayed_to_their_verdicts(rt: HostRuntime) -> Result<(), Fail> {
     let alloc = rt.alloc();
     let replay: &[&str] = &["replay", "i", "a", "r"];
-    let other = Files { steps: OTHER_STEPS, ..FILES };
-    let elsewhere = Files { automaton: SELF_JUMP, ..FILES };
-    let old = Files { automaton: OVERLAP_OF_VERSION_1, ..FILES };
-    let miscounted = Files { automaton: WRONG_COUNT, ..FILES };
-    let open = Files { automaton: OPEN, steps: NO_STEPS, ..FILES };
-    let none = Files { steps: NO_STEPS, ..FILES };
-    let unaligned = Files { esp: "BFFF0004", ..FILES };
-    let both = Files { esp: "BFFF0004", automaton: NO_DIGIT, ..FILES };
-    let in_code = Files { rest: "fill 08048000 90\n", ..FILES };
+    let other = Files {
+        steps: OTHER_STEPS,
+        ..FILES
+    };
+    let elsewhere = Files {
+        automaton: SELF_JUMP,
+        ..FILES
+    };
+    let old = Files {
+        automaton: OVERLAP_OF_VERSION_1,
+        ..FILES
+    };
+    let miscounted = Files {
+        automaton: WRONG_COUNT,
+        ..FILES
+    };
+    let open = Files {
+        automaton: OPEN,
+        steps: NO_STEPS,
+        ..FILES
+    };
+    let none = Files {
+        steps: NO_STEPS,
+        ..FILES
+    };
+    let unaligned = Files {
+        esp: "BFFF0004",
+        ..FILES
+    };
+    let both = Files {
+        esp: "BFFF0004",
+        automaton: NO_DIGIT,
+        ..FILES
+    };
+    let in_code = Files {
+        rest: "fill 08048000 90\n",
+        ..FILES
+    };
     let endless = Files { steps: "", ..FILES };
     let rows: [(&[&str], &Files, Status, &str); 14] = [
         (replay, &FILES, Status::Done, "inside 2\n"),
-        (&["replay", "--stubs=s", "i", "a", "r"], &old, Status::Done, "inside 2\n"),
+        (
+            &["replay", "--stubs=s", "i", "a", "r"],
+            &old,
+            Status::Done,
+            "inside 2\n",
+        ),
         (replay, &none, Status::Done, "inside 0\n"),
         (replay, &open, Status::Done, "open 0 08048000\n"),
         (replay, &other, Status::VerdictNo, "notarun 1 to\n"),
-        (replay, &elsewhere, Status::VerdictNo, "notanedge 0 08048000 08048001\n"),
+        (
+            replay,
+            &elsewhere,
+            Status::VerdictNo,
+            "notanedge 0 08048000 08048001\n",
+        ),
         (replay, &miscounted, refused(5, 5), ""),
         (replay, &unaligned, refused(2, 11), ""),
         (replay, &both, refused(2, 3), ""),
         (replay, &in_code, refused(5, 14), ""),
         (replay, &endless, refused(5, 7), ""),
         (&["replay", "i", "r", "a"], &FILES, refused(1, 1), ""),
-        (&["replay", "i", "a", "x"], &FILES, Status::ReadFault(Input::Second), ""),
-        (&["replay", "i", "x", "r"], &FILES, Status::ReadFault(Input::First), ""),
+        (
+            &["replay", "i", "a", "x"],
+            &FILES,
+            Status::ReadFault(Input::Second),
+            "",
+        ),
+        (
+            &["replay", "i", "x", "r"],
+            &FILES,
+            Status::ReadFault(Input::First),
+            "",
+        ),
     ];
     for (words, files, want, text) in rows {
         check(&rt, alloc, words, files, want, text)?;
@@ -225,7 +314,10 @@ fn records_are_replayed_to_their_verdicts(rt: HostRuntime) -> Result<(), Fail> {
 fn inputs_are_read_in_the_order_of_the_words(rt: HostRuntime) -> Result<(), Fail> {
     let alloc = rt.alloc();
     let words = words_of(alloc, &["replay", "i", "a", "r", "--stubs", "s"])?;
-    let bad = Files { automaton: NO_DIGIT, ..FILES };
+    let bad = Files {
+        automaton: NO_DIGIT,
+        ..FILES
+    };
     let rows: [(&Files, u64, u64, Status); 8] = [
         (&FILES, 1, 9, Status::ReadFault(Input::Image)),
         (&FILES, 2, 9, Status::ReadFault(Input::Stubs)),
