@@ -76,13 +76,13 @@ flags_is field n h = flags_by field n (length field == 6) refl h
 
 -- ---- bytes of fills
 
-fits_by : (made : Option (List ℕ)) (bytes : List ℕ) → option_and_then (λ bs. if fits_fill bs then Some bs else None) made ≡ Some bytes → made ≡ Some bytes
+pub fits_by : (made : Option (List ℕ)) (bytes : List ℕ) → option_and_then (λ bs. if fits_fill bs then Some bs else None) made ≡ Some bytes → (made ≡ Some bytes) × (fits_fill bytes ≡ true)
 fits_by None bytes h = cc
-fits_by (Some bs) bytes h = kept (fits_fill bs) h
+fits_by (Some bs) bytes h = kept (fits_fill bs) refl h
   where
-    kept : (t : Bool) → ◌≡◌ {A = Option (List ℕ)} (if t then Some bs else None) (Some bytes) → Some bs ≡ Some bytes
-    kept true e = e
-    kept false e = cc
+    kept : (t : Bool) → fits_fill bs ≡ t → ◌≡◌ {A = Option (List ℕ)} (if t then Some bs else None) (Some bytes) → (Some bs ≡ Some bytes) × (fits_fill bytes ≡ true)
+    kept true is e = (let same : bs ≡ bytes = cc in (e, ap fits_fill (sym same) ∙ is))
+    kept false is e = cc
 
 pub fill_bytes_is : (field bytes : List ℕ) → fill_bytes_of field ≡ Some bytes → field ≡ hex_text bytes
-fill_bytes_is field bytes h = bytes_back field bytes (fits_by (hex_bytes field) bytes h)
+fill_bytes_is field bytes h = bytes_back field bytes (fits_by (hex_bytes field) bytes h).0

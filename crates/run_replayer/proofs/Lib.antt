@@ -11,3 +11,5 @@ pub mod RecordTold
 pub mod FieldReads
 pub mod FillFacts
 pub mod RecordRead
+pub mod Bounds
+pub mod RecordBounds

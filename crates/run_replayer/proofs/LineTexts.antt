@@ -138,7 +138,7 @@ pub record IsStepped (fs : List (List ℕ)) (s : RunStep) : Type 0 where
   pub text : spaced fs ≡ word_field s.from ++ word_field s.to ++ choice_fields s.choice
   pub no_fill : s.choice.fill ≡ []
 
-chosen_by : (o : Option Choice) (from to : ℕ) (s : RunStep) → option_map (λ (c : Choice). record { from = from; to = to; choice = c }) o ≡ Some s
+pub chosen_by : (o : Option Choice) (from to : ℕ) (s : RunStep) → option_map (λ (c : Choice). record { from = from; to = to; choice = c }) o ≡ Some s
     → (c : Choice) × (o ≡ Some c) × (record { from = from; to = to; choice = c } ≡ s)
 chosen_by None from to s e = cc
 chosen_by (Some c) from to s e = (c, refl, cc)

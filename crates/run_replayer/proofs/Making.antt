@@ -33,17 +33,17 @@ module _ (image : Image) (stubs : StatedStubs) (count : ℕ) (choices : List Cho
   unfolding AreMade
   one_more made done m next s making below comes is = record {
     goes = λ rest end h. (
-      let left : count - done ≡ suc (count - (done + 1)) = omega arith in
-      let after : later_choices (drop done choices) ≡ drop (done + 1) choices =
-      later_choices-drop done choices ∙ ap (λ k. drop k choices) (let e : suc done ≡ done + 1 = omega arith in e) in
-      let P : List Choice → Type 0 = λ cs. AreMade image stubs (count - (done + 1)) cs next rest end in
-      let goes : AreMade image stubs (count - (done + 1)) (later_choices (drop done choices)) next rest end = subst P (sym after) h in
-      let all : AreMade image stubs (suc (count - (done + 1))) (drop done choices) m (s ∷ rest) end =
-      inr (record { next = next; rest = rest; comes = comes; first = ap (λ t. t ∷ rest) is; goes = goes }) in
-      let Q : ℕ → Type 0 = λ k. AreMade image stubs k (drop done choices) m (s ∷ rest) end in
-      let R : List RunStep → Type 0 = λ steps. AreMade image stubs count choices start steps end in
-      subst R (sym (append_assoc made (s ∷ []) rest)) (making.goes (s ∷ rest) end (subst Q (sym left) all))
-    );
+        let left : count - done ≡ suc (count - (done + 1)) = omega arith in
+        let after : later_choices (drop done choices) ≡ drop (done + 1) choices =
+        later_choices-drop done choices ∙ ap (λ k. drop k choices) (let e : suc done ≡ done + 1 = omega arith in e) in
+        let P : List Choice → Type 0 = λ cs. AreMade image stubs (count - (done + 1)) cs next rest end in
+        let goes : AreMade image stubs (count - (done + 1)) (later_choices (drop done choices)) next rest end = subst P (sym after) h in
+        let all : AreMade image stubs (suc (count - (done + 1))) (drop done choices) m (s ∷ rest) end =
+        inr (record { next = next; rest = rest; comes = comes; first = ap (λ t. t ∷ rest) is; goes = goes }) in
+        let Q : ℕ → Type 0 = λ k. AreMade image stubs k (drop done choices) m (s ∷ rest) end in
+        let R : List RunStep → Type 0 = λ steps. AreMade image stubs count choices start steps end in
+        subst R (sym (append_assoc made (s ∷ []) rest)) (making.goes (s ∷ rest) end (subst Q (sym left) all))
+        );
   }
 
   whole : (made : List RunStep) (end : EndWord) → AreMade image stubs count choices start (made ++ []) end → AreMade image stubs count choices start made end

@@ -8,7 +8,7 @@ use Rattle.text_fields.specs.Hex.{hex2, hex8, hex_text}
 use Rattle.text_fields.specs.Line.{newline, space}
 use Rattle.memory_map.specs.declared.choice.Choice.{Choice}
 use Rattle.memory_map.specs.declared.choice.Fill.{Fill}
-use Rattle.x86_machine.specs.StartLaws.{IsFill, IsStartFile}
+use Rattle.x86_machine.specs.StartLaws.{IsFill}
 use Rattle.run_replayer.specs.declared.head.Due.{Due}
 use Rattle.run_replayer.specs.declared.head.Due.TheVariants as due
 use Rattle.run_replayer.specs.declared.head.Head.{Head}
@@ -18,7 +18,7 @@ use Rattle.run_replayer.specs.declared.record.RunStep.{RunStep}
 use Rattle.run_replayer.specs.declared.record_reader.RecordReader.{RecordReader}
 use Rattle.run_replayer.specs.Fields.{bases_of, ending_of, fill_of, regs_of, six_flags_of, step_of}
 use Rattle.run_replayer.specs.Grammar.{StatesRecord, behind_word, head_step, is_rest, no_record, or_field, or_word, record_grammar, record_rest, record_step, with_fill, with_last, with_record_fill, with_step_fill, within}
-use Rattle.run_replayer.specs.Laws.{IsChoice, IsStep}
+use Rattle.run_replayer.specs.Laws.{IsChoice, IsInBounds, IsStep}
 use Rattle.run_replayer.specs.Texts.{bases_line, choice_fields, end_word, fill_line, flag_digits, flags_line, record_header, record_text, regs_line, start_lines, step_lines, truth_digit, word_field}
 use Rattle.run_replayer.proofs.FieldReads.{bare, bases_read, byte_plain, bytes_plain, choice_fields_of, end_plain, end_read, fill_read, flags_plain, plain_by, regs_read, six_flags_read, step_read, truth_plain, word_plain, words_plain}
 use Rattle.run_replayer.proofs.FillFacts.{filled_step}
@@ -225,9 +225,14 @@ end_reached r end rest on =
 end_joined : (text word end gap : List ℕ) → text ++ ((word ++ end) ++ gap) ≡ ((text ++ word) ++ end) ++ gap
 end_joined text word end gap = simp append_assoc
 
-pub record_reads : (r : RunRecord) → IsStartFile r.start → r.start.choices ≡ [] → All IsStep r.steps → StatesRecord (record_text r) r
+no_items : {X : Type 0} (xs : List X) → length xs ≡ 0 → xs ≡ []
+no_items [] e = refl
+no_items (x ∷ xs) e = absurd (omega (arith, e))
+
+pub record_reads : (r : RunRecord) → IsInBounds r → StatesRecord (record_text r) r
 unfolding record_text start_lines
-record_reads r is none_chosen steps =
+record_reads r bounds =
+    let is = bounds.start in
     let s0 : RecordReader = no_record in
     let s1 : RecordReader = at due.Regs zeros 0 0 0 [] [] None in
     let s2 : RecordReader = at due.Flags r.start.regs 0 0 0 [] [] None in
@@ -239,18 +244,18 @@ record_reads r is none_chosen steps =
     let head : Reaches record_grammar s1 (start_lines r.start) s5 =
     reaches_both record_grammar s1 s4 s5 (regs_line r.start.regs ++ flags_line r.start.flags ++ bases_line r.start.fs r.start.gs) (flat_map fill_line r.start.fill)
     (reaches_both record_grammar s1 s3 s4 (regs_line r.start.regs ++ flags_line r.start.flags) (bases_line r.start.fs r.start.gs)
-    (reaches_both record_grammar s1 s2 s3 (regs_line r.start.regs) (flags_line r.start.flags) (regs_reached r.start.regs is.registers is.words) (flags_reached r.start.regs r.start.flags is.flags))
+    (reaches_both record_grammar s1 s2 s3 (regs_line r.start.regs) (flags_line r.start.flags) (regs_reached r.start.regs is.registers is.words) (flags_reached r.start.regs r.start.flags r.start.six_flags))
     (bases_reached r.start.regs r.start.flags r.start.fs r.start.gs is.fs is.gs))
     (head_fills r.start.regs r.start.flags r.start.fs r.start.gs [] r.start.fill is.fill) in
     let all : Reaches record_grammar s0 (((((record_header ++ newline) ++ start_lines r.start) ++ flat_map step_lines r.steps) ++ (codes "end " ++ end_word r.end ++ newline))) s7 =
     reaches_both record_grammar s0 s6 s7 (((record_header ++ newline) ++ start_lines r.start) ++ flat_map step_lines r.steps) (codes "end " ++ end_word r.end ++ newline)
     (reaches_both record_grammar s0 s5 s6 ((record_header ++ newline) ++ start_lines r.start) (flat_map step_lines r.steps)
     (reaches_both record_grammar s0 s1 s5 (record_header ++ newline) (start_lines r.start) header_reached head)
-    (steps_reached r.start.regs r.start.flags r.start.fs r.start.gs r.start.fill [] r.steps steps))
+    (steps_reached r.start.regs r.start.flags r.start.fs r.start.gs r.start.fill [] r.steps bounds.steps))
     (end_reached s6 r.end refl refl) in
     let P : List ℕ → Type 0 = λ text. Reaches record_grammar s0 text s7 in
     record {
       read = s7;
       reads = reaches_end record_grammar s0 s7 (record_text r) (subst P (end_joined (((record_header ++ newline) ++ start_lines r.start) ++ flat_map step_lines r.steps) (codes "end ") (end_word r.end) newline) all) refl;
-      is = record { regs = refl; flags = refl; fs = refl; gs = refl; fill = refl; choices = none_chosen; steps = refl; end = refl };
+      is = record { regs = refl; flags = refl; fs = refl; gs = refl; fill = refl; choices = no_items r.start.choices r.no_choices; steps = refl; end = refl };
     }

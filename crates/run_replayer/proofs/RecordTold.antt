@@ -116,9 +116,9 @@ end_text fs end e = rw (ending_told fs end e) refl
 by_word : (s t : RecordReader) (word line : List ℕ) (fs : List (List ℕ)) (fill step end : Bool) → fields line ≡ word ∷ fs → s.end ≡ None → is_rest s.head.due ≡ true
     → bytes_eq word (codes "fill") ≡ fill → bytes_eq word (codes "step") ≡ step → bytes_eq word (codes "end") ≡ end
     → (if fill then or_field (option_map (λ f. with_record_fill f s.steps s) (fill_of fs))
-      else if step then or_field (option_map (λ (c : RunStep). record s { steps = s.steps ++ c ∷ [] }) (step_of fs))
-      else if end then or_field (option_map (λ end. record s { end = Some end }) (ending_of fs))
-      else Err WORD) ≡ Ok t
+    else if step then or_field (option_map (λ (c : RunStep). record s { steps = s.steps ++ c ∷ [] }) (step_of fs))
+    else if end then or_field (option_map (λ end. record s { end = Some end }) (ending_of fs))
+    else Err WORD) ≡ Ok t
     → Adds s t line
 by_word s t word line fs true step end parts on rest e f g h =
     let m = mapped _ (fill_of fs) t (field_made _ t h) in
@@ -191,7 +191,7 @@ told_written read end rest ended =
     ap (λ l. l ++ flat_map fill_line read.head.fill ++ flat_map step_lines read.steps ++ end_told read.end) (told_due-rest record_header read.head.due read.head rest)
     ∙ ap (λ (o : Option EndWord). told_due record_header due.Rest read.head ++ flat_map fill_line read.head.fill ++ flat_map step_lines read.steps ++ end_told o) ended
     ∙ joined record_header newline (regs_line read.head.regs) (flags_line read.head.flags) (bases_line read.head.fs read.head.gs) (flat_map fill_line read.head.fill)
-      (flat_map step_lines read.steps) (codes "end ") (end_word end) newline
+    (flat_map step_lines read.steps) (codes "end ") (end_word end) newline
 
 written_same : (read : RecordReader) (r : RunRecord) → IsRecord read r
     → written read.head.regs read.head.flags read.head.fs read.head.gs read.head.fill read.steps r.end ≡ written r.start.regs r.start.flags r.start.fs r.start.gs r.start.fill r.steps r.end
@@ -201,11 +201,11 @@ written_text : (r : RunRecord) → written r.start.regs r.start.flags r.start.fs
 unfolding written record_text start_lines
 written_text r = refl
 
-nothing_kept : Keeps no_record
+pub nothing_kept : Keeps no_record
 nothing_kept = record { fresh = λ _. (refl, refl); late = λ e. cc }
 
 pub record_told : (text : List ℕ) (r : RunRecord) → StatesRecord text r → text ≡ record_text r
-unfolding told told_due
+unfolding told told_due end_told
 record_told text r h =
     let last = kept_lines record_grammar Keeps told tells (lines text) 1 no_record h.read nothing_kept h.reads in
     told_text record_grammar Keeps told tells no_record h.read text nothing_kept refl h.reads

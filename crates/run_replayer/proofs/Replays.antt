@@ -120,11 +120,11 @@ module _ (image : Image) (stubs : StatedStubs) (i : Index) (start : MachineState
   one_passed s next below at passes = record {
     number = ap (λ k. k + 1) is.number;
     goes = λ verdict h. (
-      let P : List RunStep → Type 0 = λ ss. Decides image stubs i.edges i.opened done m ss verdict in
-      let Q : ℕ → Type 0 = λ k. Decides image stubs i.edges i.opened k m (s ∷ drop (done + 1) steps) verdict in
-      let R : ℕ → Type 0 = λ k. Decides image stubs i.edges i.opened (k + 1) next (drop (done + 1) steps) verdict in
-      is.goes verdict (subst P (sym (next_step s below at)) (subst Q is.number (passes.goes (drop (done + 1) steps) verdict (subst R (sym is.number) h))))
-    );
+        let P : List RunStep → Type 0 = λ ss. Decides image stubs i.edges i.opened done m ss verdict in
+        let Q : ℕ → Type 0 = λ k. Decides image stubs i.edges i.opened k m (s ∷ drop (done + 1) steps) verdict in
+        let R : ℕ → Type 0 = λ k. Decides image stubs i.edges i.opened (k + 1) next (drop (done + 1) steps) verdict in
+        is.goes verdict (subst P (sym (next_step s below at)) (subst Q is.number (passes.goes (drop (done + 1) steps) verdict (subst R (sym is.number) h))))
+        );
   }
 
   pub ended : (s : RunStep) (verdict : Verdict) → done < length steps → s ≡ get_or steps done s → Ends image stubs i n m s verdict → Decides image stubs i.edges i.opened 0 start steps verdict

@@ -125,9 +125,9 @@ choice_text fs c e = (let h = choice_told fs c e in rw (h.text, h.no_fill) (sym 
 by_word : (s t : StartReader) (word line : List ℕ) (fs : List (List ℕ)) (fill choice end : Bool) → fields line ≡ word ∷ fs → s.ended ≡ false → is_rest s.head.due ≡ true
     → bytes_eq word (codes "fill") ≡ fill → bytes_eq word (codes "choice") ≡ choice → bytes_eq word (codes "end") ≡ end
     → (if fill then or_field (option_map (λ f. with_start_fill f s.choices s) (fill_of fs))
-      else if choice then or_field (option_map (λ (c : Choice). record s { choices = s.choices ++ c ∷ [] }) (choice_of fs))
-      else if end then or_field (no_more (record s { ended = true }) fs)
-      else Err WORD) ≡ Ok t
+    else if choice then or_field (option_map (λ (c : Choice). record s { choices = s.choices ++ c ∷ [] }) (choice_of fs))
+    else if end then or_field (no_more (record s { ended = true }) fs)
+    else Err WORD) ≡ Ok t
     → Adds s t line
 by_word s t word line fs true choice end parts on rest e f g h =
     let m = mapped _ (fill_of fs) t (field_made _ t h) in
@@ -199,7 +199,7 @@ told_written read rest ended =
     ap (λ l. l ++ flat_map fill_line read.head.fill ++ flat_map choice_lines read.choices ++ end_told read.ended) (told_due-rest start_header read.head.due read.head rest)
     ∙ ap (λ (b : Bool). told_due start_header due.Rest read.head ++ flat_map fill_line read.head.fill ++ flat_map choice_lines read.choices ++ end_told b) ended
     ∙ joined start_header newline (regs_line read.head.regs) (flags_line read.head.flags) (bases_line read.head.fs read.head.gs) (flat_map fill_line read.head.fill)
-      (flat_map choice_lines read.choices) (codes "end") newline
+    (flat_map choice_lines read.choices) (codes "end") newline
 
 written_same : (read : StartReader) (s : StartFile) → IsStart read s → written read.head.regs read.head.flags read.head.fs read.head.gs read.head.fill read.choices ≡ written s.regs s.flags s.fs s.gs s.fill s.choices
 written_same read s is = cc
@@ -209,7 +209,7 @@ unfolding written start_text start_lines
 written_text s = refl
 
 pub start_told : (text : List ℕ) (s : StartFile) → StatesStart text s → text ≡ start_text s
-unfolding told told_due
+unfolding told told_due end_told
 start_told text s h =
     let kept : Keeps no_start = record { fresh = λ _. (refl, refl); late = λ e. cc } in
     let last = kept_lines start_grammar Keeps told tells (lines text) 1 no_start h.read kept h.reads in

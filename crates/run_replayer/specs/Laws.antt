@@ -34,11 +34,20 @@ pub record IsStep (s : RunStep) : Type 0 where
   pub to : s.to < 2 ^ 32
   pub choice : IsChoice s.choice
 
+-- a record that keeps the bounds of its fields
+pub record IsInBounds (r : RunRecord) : Type 0 where
+  pub start : IsStartFile r.start
+  pub steps : All IsStep r.steps
+
 -- ---- texts
 
--- the text of a record is read as that record
+-- what a text states as a record is in its bounds
+abbrev pub TextsStateInBounds : Type 0
+TextsStateInBounds = (text : List ℕ) (r : RunRecord) → StatesRecord text r → IsInBounds r
+
+-- the text of a record in its bounds is read as that record
 abbrev pub RecordTextsAreRead : Type 0
-RecordTextsAreRead = (r : RunRecord) → IsStartFile r.start → r.start.choices ≡ [] → All IsStep r.steps → StatesRecord (record_text r) r
+RecordTextsAreRead = (r : RunRecord) → IsInBounds r → StatesRecord (record_text r) r
 
 -- ---- runs
 

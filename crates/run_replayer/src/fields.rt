@@ -102,7 +102,10 @@ const END_WORDS: [EndWord; 6] = [
 fn end_of(field: &[u8]) -> Option<EndWord>
     ensures { result ≡ end_of field.now }
 {
-    END_WORDS.iter().copied().find(|end| end_word(*end) == field)
+    END_WORDS
+        .iter()
+        .copied()
+        .find(|end| end_word(*end) == field)
 }
 
 /// The most bytes of a fill.
@@ -158,7 +161,11 @@ pub fn bases_of(mut fields: Fields) -> Option<(u32, u32)>
 {
     let fs = fields.next_word()?;
     let gs = fields.next_word()?;
-    if fields.is_done() { Some((fs, gs)) } else { None }
+    if fields.is_done() {
+        Some((fs, gs))
+    } else {
+        None
+    }
 }
 
 /// An address and the bytes from there on.

@@ -1,4 +1,4 @@
-ghost use Rattle.std.specs.Prelude.{◌≡◌, ◌++◌, ◌∷◌, [], IfOk, MatchOption, OnOk};
+ghost use Rattle.std.specs.Prelude.{◌≡◌, ◌++◌, ◌∷◌, [], MatchOption, OnOk};
 
 use memory_map::Items;
 use std::alloc::{AllocError, Global};
@@ -51,13 +51,4 @@ impl<T: Drop> Growing<T> {
         self.held.push(item)?;
         Ok(())
     }
-}
-
-/// These elements with one more behind them.
-pub fn with_one_more<T: Drop>(items: Items<T>, item: T) -> Result<Items<T>, AllocError>
-    ensures { IfOk result (λ more. more ≡ items ++ item ∷ []) }
-{
-    let mut held = items.into_vec();
-    held.push(item)?;
-    Ok(Items::from_vec(held))
 }

@@ -1,11 +1,11 @@
-ghost use Rattle.std.specs.Prelude.{◌≡◌, Err, Ok, MatchResult, OnOk};
+ghost use Rattle.std.specs.Prelude.{◌≡◌, Err, Ok, IfOk, MatchResult, OnOk};
 ghost use Rattle.text_fields.specs.Lines.{fields};
-ghost use Rattle.run_replayer.specs.Grammar.{bases_step, behind, flags_step, head_step, header_step, no_head, regs_step, with_head_fill};
+ghost use Rattle.run_replayer.specs.Grammar.{bases_step, behind, flags_step, head_step, header_step, no_head, regs_step, with_fill, with_head_fill};
 
 use crate::fields::{bases_of, regs_of, six_flags_of};
 use crate::growing::Growing;
 use crate::six_flags::SixFlags;
-use memory_map::Fill;
+use memory_map::{Choice, Fill, Items};
 use std::alloc::{AllocError, Global};
 use text_fields::{FIELD, Fields, HEADER, WORD};
 
@@ -131,4 +131,14 @@ impl Head {
     {
         self.fill.push(fill)
     }
+}
+
+/// Puts a fill behind those of a choice.
+pub fn with_fill(mut choice: Choice, fill: Fill) -> Result<Choice, AllocError>
+    ensures { IfOk result (λ more. more ≡ with_fill fill choice) }
+{
+    let mut held = choice.fill.into_vec();
+    held.push(fill)?;
+    choice.fill = Items::from_vec(held);
+    Ok(choice)
 }

@@ -1,4 +1,4 @@
-ghost use Rattle.run_replayer.specs.Laws.{MissingEdgesAreOfRuns, RecordTextsAreRead, RecordsHaveOneVerdict, RunsHaveOneRecord};
+ghost use Rattle.run_replayer.specs.Laws.{MissingEdgesAreOfRuns, RecordTextsAreRead, RecordsHaveOneVerdict, RunsHaveOneRecord, TextsStateInBounds};
 
 /// A law: a run has one record, and a record one verdict.
 pub fn records_and_verdicts_are_one()
@@ -12,7 +12,12 @@ pub fn missing_edges_are_of_runs()
     ensures { MissingEdgesAreOfRuns }
 {}
 
-/// A law: the text of a record is read as that record.
+/// A law: what a text states as a record keeps the bounds of its fields.
+pub fn texts_state_in_bounds()
+    ensures { TextsStateInBounds }
+{}
+
+/// A law: the text of a record that keeps the bounds of its fields is read as that record.
 pub fn record_texts_are_read()
     ensures { RecordTextsAreRead }
 {}

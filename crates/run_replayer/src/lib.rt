@@ -19,7 +19,10 @@ mod sorted;
 mod start_reader;
 mod verdict;
 
-pub use laws::{missing_edges_are_of_runs, record_texts_are_read, records_and_verdicts_are_one};
+pub use laws::{
+    missing_edges_are_of_runs, record_texts_are_read, records_and_verdicts_are_one,
+    texts_state_in_bounds,
+};
 pub use print::print_record;
 pub use record::{EndWord, RunRecord, RunStep};
 pub use record_reader::{RecordReader, read_record};

@@ -4,8 +4,8 @@ ghost use Rattle.run_replayer.specs.Grammar.{IsRecord, StatesRecord, no_record, 
 ghost use Rattle.run_replayer.specs.Texts.{record_text};
 
 use crate::fields::{ending_of, fill_of, step_of};
-use crate::growing::{Growing, with_one_more};
-use crate::head::{Due, Head};
+use crate::growing::Growing;
+use crate::head::{Due, Head, with_fill};
 use crate::{EndWord, RunRecord, RunStep};
 use memory_map::{Fill, Items};
 use std::alloc::{AllocError, Global};
@@ -38,7 +38,7 @@ impl RecordReader {
         match self.steps.pop() {
             None => self.head.add_fill(fill),
             Some(mut step) => {
-                step.choice.fill = with_one_more(step.choice.fill, fill)?;
+                step.choice = with_fill(step.choice, fill)?;
                 self.steps.push(step)
             }
         }

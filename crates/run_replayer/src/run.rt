@@ -161,7 +161,14 @@ pub fn run_machine(
 {
     let machine = Machine::start(alloc, image, start)?;
     let copy = copy_start(alloc, start)?;
-    let made = make_steps(alloc, image, stubs, machine, start.choices.as_slice(), steps)?;
+    let made = make_steps(
+        alloc,
+        image,
+        stubs,
+        machine,
+        start.choices.as_slice(),
+        steps,
+    )?;
     let Made { steps, end } = made;
     Ok(RunRecord {
         start: copy,

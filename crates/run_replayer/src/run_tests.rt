@@ -52,9 +52,11 @@ fn plain_start(alloc: Global) -> StartFile {
 
 const OVERLAP: [u8; 4] = [0xEB, 0xFF, 0xC0, 0xF4];
 
-const OVERLAP_RECORD: &[u8] = b"jakstab-record 1\nregs 00000000 00000000 00000000 00000000 BFFF0000 00000000 00000000 00000000\nflags 000000\nbases 10000000 20000000\nstep 08048000 08048001 00 00000000 00000000 00000000 00000000 0\nstep 08048001 08048003 00 00000000 00000000 00000000 00000000 0\nend faulted\n";
+const OVERLAP_RECORD: &[u8] =
+    b"jakstab-record 1\nregs 00000000 00000000 00000000 00000000 BFFF0000 00000000 00000000 00000000\nflags 000000\nbases 10000000 20000000\nstep 08048000 08048001 00 00000000 00000000 00000000 00000000 0\nstep 08048001 08048003 00 00000000 00000000 00000000 00000000 0\nend faulted\n";
 
-const NO_STEPS: &[u8] = b"jakstab-record 1\nregs 00000000 00000000 00000000 00000000 BFFF0000 00000000 00000000 00000000\nflags 000000\nbases 10000000 20000000\nend steps\n";
+const NO_STEPS: &[u8] =
+    b"jakstab-record 1\nregs 00000000 00000000 00000000 00000000 BFFF0000 00000000 00000000 00000000\nflags 000000\nbases 10000000 20000000\nend steps\n";
 
 #[test]
 fn runs_are_recorded(rt: HostRuntime) -> Result<(), Fail> {
@@ -84,7 +86,12 @@ fn starts_are_refused(rt: HostRuntime) -> Result<(), Fail> {
         (0xBFFF_0000, 0x1000_0000, gs, None),
         (0xBFFF_0004, 0x1000_0000, gs, Some(StartFault::Align)),
         (0x0010_0000, 0x1000_0000, gs, Some(StartFault::Window)),
-        (0xBFFF_0000, 0x1000_0000, 0x1000_1000, Some(StartFault::Overlap)),
+        (
+            0xBFFF_0000,
+            0x1000_0000,
+            0x1000_1000,
+            Some(StartFault::Overlap),
+        ),
     ];
     for (esp, fs, gs, want) in rows {
         let start = start_at(alloc, esp, fs, gs);
@@ -98,7 +105,10 @@ fn starts_are_refused(rt: HostRuntime) -> Result<(), Fail> {
     })?;
     start.fill = Items::from_vec(fills);
     let want = StartFault::Fill { index: 0 };
-    assert_eq!(rt; fault_of(alloc, &image, &start), Some(RunFault::Start(want)));
+    assert_eq!(rt;
+        fault_of(alloc, &image, &start),
+        Some(RunFault::Start(want))
+    );
     Ok(())
 }
 
@@ -140,8 +150,11 @@ fn end_of(alloc: Global, code: &[u8], stubs: &[u8], fails: bool) -> Result<EndWo
 
 // `call dword [09000000]`, the import, and then `hlt`; a jump to F0000000; a jump to itself; and bytes that are not listed.
 const CALL: &[u8] = &[0xFF, 0x15, 0, 0, 0, 9, 0xF4];
+
 const TO_EXIT: &[u8] = &[0xE9, 0xFB, 0x7F, 0xFB, 0xE7];
+
 const TO_ITSELF: &[u8] = &[0xEB, 0xFE];
+
 const NOT_LISTED: &[u8] = &[0x0F, 0x05];
 
 #[test]
@@ -170,7 +183,8 @@ fn automaton_of(alloc: Global, text: &[u8]) -> Result<Automaton, Fail> {
 const OVERLAP_LOCATIONS: &[u8] =
     b"jakstab-automaton 1\nentry 08048000\nloc 08048000\nloc 08048001\nloc 08048003\n";
 
-const OVERLAP_EDGES: &[u8] = b"edge 08048000 08048001 EBFF jmp 08048001\nedge 08048001 08048003 FFC0 inc eax\n";
+const OVERLAP_EDGES: &[u8] =
+    b"edge 08048000 08048001 EBFF jmp 08048001\nedge 08048001 08048003 FFC0 inc eax\n";
 
 // The automaton of OVERLAP, with these marks and this end behind its edges.
 fn overlap_automaton(alloc: Global, marks: &[u8], end: &[u8]) -> Result<Automaton, Fail> {
@@ -200,7 +214,9 @@ fn verdict_of(alloc: Global, code: &[u8], a: &Automaton, text: &[u8]) -> Result<
 // A record of these steps, each its two addresses and no choice.
 fn record_of(alloc: Global, steps: &[&[u8]]) -> Result<Vec<u8>, Fail> {
     let mut text = Vec::new(alloc);
-    text.extend_from_slice(b"jakstab-record 1\nregs 00000000 00000000 00000000 00000000 BFFF0000 00000000 00000000 00000000\nflags 000000\nbases 10000000 20000000\n")?;
+    text.extend_from_slice(
+        b"jakstab-record 1\nregs 00000000 00000000 00000000 00000000 BFFF0000 00000000 00000000 00000000\nflags 000000\nbases 10000000 20000000\n",
+    )?;
     for step in steps {
         text.extend_from_slice(b"step ")?;
         text.extend_from_slice(step)?;
@@ -211,6 +227,7 @@ fn record_of(alloc: Global, steps: &[&[u8]]) -> Result<Vec<u8>, Fail> {
 }
 
 const FIRST: &[u8] = b"08048000 08048001";
+
 const SECOND: &[u8] = b"08048001 08048003";
 
 #[test]
@@ -222,10 +239,22 @@ fn replays_tell_each_verdict(rt: HostRuntime) -> Result<(), Fail> {
         (&OVERLAP, &[FIRST], b"inside 1\n"),
         (&OVERLAP, &[FIRST, SECOND], b"inside 2\n"),
         (&OVERLAP, &[FIRST, b"08048001 08048002"], b"notarun 1 to\n"),
-        (&OVERLAP, &[FIRST, b"08048002 08048003"], b"notarun 1 from\n"),
-        (&OVERLAP, &[FIRST, SECOND, b"08048003 08048004"], b"notarun 2 faulted\n"),
+        (
+            &OVERLAP,
+            &[FIRST, b"08048002 08048003"],
+            b"notarun 1 from\n",
+        ),
+        (
+            &OVERLAP,
+            &[FIRST, SECOND, b"08048003 08048004"],
+            b"notarun 2 faulted\n",
+        ),
         (NOT_LISTED, &[FIRST], b"notarun 0 notlisted\n"),
-        (TO_ITSELF, &[b"08048000 08048000"], b"notanedge 0 08048000 08048000\n"),
+        (
+            TO_ITSELF,
+            &[b"08048000 08048000"],
+            b"notanedge 0 08048000 08048000\n",
+        ),
     ];
     for (code, steps, want) in rows {
         let text = record_of(alloc, steps)?;
@@ -268,8 +297,16 @@ fn replays_end_at_open_locations(rt: HostRuntime) -> Result<(), Fail> {
             [].as_slice(),
             b"open 0 08048000\n".as_slice(),
         ),
-        (b"open 08048001 store\n", [FIRST, SECOND].as_slice(), b"open 1 08048001\n"),
-        (b"open 08048003 budget\n", [FIRST, SECOND].as_slice(), b"open 2 08048003\n"),
+        (
+            b"open 08048001 store\n",
+            [FIRST, SECOND].as_slice(),
+            b"open 1 08048001\n",
+        ),
+        (
+            b"open 08048003 budget\n",
+            [FIRST, SECOND].as_slice(),
+            b"open 2 08048003\n",
+        ),
     ] {
         let a = overlap_automaton(alloc, mark, b"end 3 2 1\n")?;
         let text = record_of(alloc, steps)?;
@@ -295,11 +332,31 @@ fn a_run_that_exits_goes_no_further(rt: HostRuntime) -> Result<(), Fail> {
 fn verdicts_are_lines(rt: HostRuntime) -> Result<(), Fail> {
     let alloc = rt.alloc();
     for (verdict, no, want) in [
-        (Verdict::Inside(4_294_967_295), false, b"inside 4294967295\n".as_slice()),
-        (Verdict::ReachedOpen(10, 0xF000_0000), false, b"open 10 F0000000\n"),
-        (Verdict::NotARun(0, RunKind::NoStub), true, b"notarun 0 nostub\n"),
-        (Verdict::NotARun(1, RunKind::BadChoice), true, b"notarun 1 badchoice\n"),
-        (Verdict::NotAnEdge(7, 1, 0xABCD), true, b"notanedge 7 00000001 0000ABCD\n"),
+        (
+            Verdict::Inside(4_294_967_295),
+            false,
+            b"inside 4294967295\n".as_slice(),
+        ),
+        (
+            Verdict::ReachedOpen(10, 0xF000_0000),
+            false,
+            b"open 10 F0000000\n",
+        ),
+        (
+            Verdict::NotARun(0, RunKind::NoStub),
+            true,
+            b"notarun 0 nostub\n",
+        ),
+        (
+            Verdict::NotARun(1, RunKind::BadChoice),
+            true,
+            b"notarun 1 badchoice\n",
+        ),
+        (
+            Verdict::NotAnEdge(7, 1, 0xABCD),
+            true,
+            b"notanedge 7 00000001 0000ABCD\n",
+        ),
     ] {
         assert_eq!(rt; verdict_line(alloc, verdict)?.as_slice(), want);
         assert_eq!(rt; verdict.is_no(), no);

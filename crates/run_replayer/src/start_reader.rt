@@ -4,8 +4,8 @@ ghost use Rattle.run_replayer.specs.Grammar.{IsStart, StatesStart, no_start, sta
 ghost use Rattle.run_replayer.specs.Texts.{start_text};
 
 use crate::fields::{choice_of, fill_of};
-use crate::growing::{Growing, with_one_more};
-use crate::head::{Due, Head};
+use crate::growing::Growing;
+use crate::head::{Due, Head, with_fill};
 use memory_map::{Choice, Fill};
 use std::alloc::{AllocError, Global};
 use text_fields::{FIELD, Fields, LineReader, LineRefusal, TextFault, WORD, read_lines};
@@ -36,10 +36,7 @@ impl StartReader {
     {
         match self.choices.pop() {
             None => self.head.add_fill(fill),
-            Some(mut choice) => {
-                choice.fill = with_one_more(choice.fill, fill)?;
-                self.choices.push(choice)
-            }
+            Some(choice) => self.choices.push(with_fill(choice, fill)?),
         }
     }
 

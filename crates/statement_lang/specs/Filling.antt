@@ -1,5 +1,5 @@
 -- Memory that is filled in, and flags that are given as a byte.
-use Rattle.std.specs.Prelude.{ℕ, ◌-◌, false, ◌×◌, if◌then◌else◌, List, map, flat_map, slice_set}
+use Rattle.std.specs.Prelude.{ℕ, ◌-◌, false, if◌then◌else◌, List, map, flat_map, slice_set}
 use Rattle.std.specs.List.{enumerate_from}
 use Rattle.bit_words.specs.declared.flags.Flags.{Flags as FlagSet}
 use Rattle.memory_map.specs.declared.choice.Fill.{Fill}
