@@ -1,6 +1,6 @@
 -- The headline: the theorem on the log, carried to the lines of its text.
-use Rattle.std.proofs.Common.{◌≡◌, ℕ, List, [], ◌∷◌, map, subst, refl, sym, ◌∙◌, Ok}
-use Rattle.std.specs.Prelude.{Contains, Result, ⊤}
+use Rattle.std.proofs.Common.{◌≡◌, ℕ, List, [], ◌∷◌, map, subst, refl, sym, ◌∙◌}
+use Rattle.std.specs.Prelude.{Contains, ⊤}
 use Rattle.memory_map.specs.Image.{Image, IsLoaded}
 use Rattle.memory_map.specs.Start.{Start}
 use Rattle.memory_map.specs.State.{MachineState}
@@ -17,8 +17,8 @@ use Rattle.run_replayer.specs.Laws.{LeavesBy}
 use Rattle.run_replayer.proofs.Leaving.{leaves_by}
 use Rattle.automaton_text.specs.Text.{edge_line, text_of, without_row}
 use Rattle.automaton_text.specs.declared.automaton.Automaton.{Automaton}
-use Rattle.automaton_text.proofs.ReadBack.{read_back}
-use Rattle.text_fields.specs.declared.line_fault.LineFault.{LineFault}
+use Rattle.automaton_text.specs.Orderly.{IsOrderly}
+use Rattle.automaton_text.proofs.Told.{texts_tell}
 use Rattle.run_replayer.specs.declared.verdict.Verdict.TheVariants.{NotAnEdge}
 use Rattle.run_replayer.specs.Verdict.{VerdictOf, open_of}
 use Rattle.automaton_text.specs.declared.automaton.OpenMark.{OpenMark}
@@ -38,6 +38,8 @@ use Rattle.command_words.specs.declared.task.TextVersion.TheVariants.{First, Sec
 use Rattle.jakstab_core.specs.Headline.{HasLine, IsPrintedOpen, IsCovered, CoversRuns, log_automaton, automaton_over, in_version, recovered, recovered_text}
 use Rattle.jakstab_core.specs.Laws.{ReplaysFindEdges, ReplaysOfTextsFindEdges}
 use Rattle.jakstab_core.proofs.Lines.{has_edge_line, has_open_line}
+use Rattle.jakstab_core.proofs.Printing.{found_over, printable}
+use Rattle.jakstab_core.proofs.SameLines.{same_edges, same_open}
 
 -- each version has the edges of the automaton
 edges_told : (version : TextVersion) (a : Automaton) → (in_version version a).edges ≡ a.edges
@@ -159,11 +161,21 @@ replays_find image stubs options version taken n from to loaded start verdict =
     let l : LeavesBy image stubs a taken = leaves_by image stubs a taken n from to verdict in
     l.leaves (inside_over image stubs loaded options.domain options.k options.budget version l.state l.states (states_meet_start image taken.start l.state loaded start l.starts) l.run)
 
-same_read : (a b : Automaton) → ◌≡◌ {A = Result Automaton LineFault} (Ok a) (Ok b) → a ≡ b
-same_read a b e = cc
+-- two automata of which the first has all edges and marks of the second
+stays_too : (image : Image) (stubs : StatedStubs) (a b : Automaton) → ((x : Edge) → Contains b.edges x → Contains a.edges x) → ((at : ℕ) → Contains (open_of b) at → Contains (open_of a) at)
+    → (m : MachineState) (states : List MachineState)
+    → Follows (machine_of image stubs) (λ m. ⊤) (Contains (open_of b)) b.edges m states → Follows (machine_of image stubs) (λ m. ⊤) (Contains (open_of a)) a.edges m states
+stays_too image stubs a b edges opened m [] f = tt
+stays_too image stubs a b edges opened m (next ∷ rest) f = (tt, λ shut.
+    let step = f.1 (λ at. shut (opened m.eip at)) in
+    (edges (edge_of image m next) step.0, stays_too image stubs a b edges opened next rest step.1))
 
 pub replays_of_texts_find : ReplaysOfTextsFindEdges
-replays_of_texts_find image stubs options version a taken n from to loaded fits orderly read start verdict =
+replays_of_texts_find image stubs options version a taken n from to loaded printed fits short read start verdict =
     let b : Automaton = in_version version (recovered image stubs options) in
-    let P : Automaton → Type 0 = λ x. VerdictOf image stubs x taken (NotAnEdge n from to) in
-    replays_find image stubs options version taken n from to loaded start (subst P (same_read a b (sym read ∙ read_back b fits orderly)) verdict)
+    let told : IsOrderly a × (text_of a ≡ text_of b) = texts_tell (text_of b) a short read in
+    let other = (printable version (recovered image stubs options) (found_over options.domain image stubs options.k options.budget)).version in
+    let l : LeavesBy image stubs a taken = leaves_by image stubs a taken n from to verdict in
+    l.leaves (stays_too image stubs a b
+    (same_edges a b fits printed told.0.version other told.1) (same_open a b fits printed told.0.version other told.1) l.state l.states
+    (inside_over image stubs loaded options.domain options.k options.budget version l.state l.states (states_meet_start image taken.start l.state loaded start l.starts) l.run))

@@ -1,4 +1,5 @@
 pub mod Lines
+pub mod SameLines
 pub mod Covering
 pub mod Printing
 pub mod Saying
