@@ -1,5 +1,5 @@
 -- Automata of one text have the same edges, and mark the same addresses open.
-use Rattle.std.proofs.Common.{◌≡◌, ◌⊎◌, inl, inr, ℕ, ◌+◌, ◌<◌, ◌^◌, ◌/◌, ◌%◌, ◌==◌, Bool, true, false, List, [], ◌∷◌, ◌++◌, length, map, get_or, Option, None, Some, refl, sym, ◌∙◌, ap, subst, arith, append_assoc, append-nil, decimal, nat_lt}
+use Rattle.std.proofs.Common.{◌≡◌, ◌⊎◌, inl, inr, ℕ, ◌<◌, ◌^◌, ◌/◌, ◌%◌, ◌==◌, Bool, true, false, List, [], ◌∷◌, ◌++◌, length, map, get_or, Option, None, Some, refl, sym, ◌∙◌, ap, subst, arith, append_assoc, append-nil, decimal, nat_lt}
 use Rattle.std.specs.Prelude.{All, Contains, codes, flat_map, ◌&&◌, ◌||◌, if◌then◌else◌}
 use Rattle.std.specs.List.{list_all}
 use Rattle.std.specs.Str.{bytes_eq}
@@ -26,7 +26,7 @@ use Rattle.automaton_text.specs.declared.automaton.Automaton.{Automaton}
 use Rattle.automaton_text.specs.Laws.{FitsTypes, fits_edge, fits_label, fits_location, fits_mark, fits_name, fits_row, is_word}
 use Rattle.automaton_text.specs.Orderly.{edge_text}
 use Rattle.automaton_text.specs.Text.{cause_text, code_text, edge_line, end_line, entry_line, header_line, import_suffix, is_version, label_text, loc_line, open_line, suffix_of, text_of}
-use Rattle.automaton_text.proofs.Ascends.{and_true, both}
+use Rattle.automaton_text.proofs.Ascends.{both}
 use Rattle.automaton_text.proofs.ClearTexts.{clear_both, clear_code, is_clear, is_plain, plain_bytes, plain_cause, plain_clear, plain_decimal, plain_is, plain_name, plain_word}
 use Rattle.automaton_text.proofs.FieldsTold.{row_list}
 use Rattle.automaton_text.proofs.ReadBack.{clear_is}
@@ -287,7 +287,7 @@ mark_apart a m = record {
 
 no_mark_line : (m : OpenMark) (x : Edge) → mark_body m ≡ edge_body x → ⊥
 unfolding mark_body edge_body
-no_mark_line m x same = let e : 112 ≡ 100 = ap second same in absurd (omega arith)
+no_mark_line m x same = absurd (let e : ◌≡◌ {A = ℕ} 112 100 = ap second same in omega (arith, e))
 
 -- ---- what a line says
 
