@@ -1,4 +1,4 @@
--- The headline: the theorem on the log, carried to the lines of its text.
+-- The headline: the theorem on the log, carried to the lines of its text, and to replays against its automaton.
 use Rattle.std.proofs.Common.{◌≡◌, ℕ, List, [], ◌∷◌, map, subst, refl, sym, ◌∙◌}
 use Rattle.std.specs.Prelude.{Contains, ⊤}
 use Rattle.memory_map.specs.Image.{Image, IsLoaded}
