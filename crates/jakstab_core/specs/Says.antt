@@ -36,7 +36,7 @@ pub record IsTextOf (held : Option Contents) (command : Command) (text : List �
 abbrev pub IsDue : Call → List ℕ → Bool → Type 0
 IsDue a text refuted = OfCommand a (λ command. IsTextOf a.shelf.held command text refuted)
 
--- `out` gained exactly the command's text
+-- `out` gained exactly the command's text, which does not say no
 pub record SaysDone (a : Call) (out : Gain) : Type 0 where
   pub text : List ℕ
   pub due : IsDue a text false
@@ -64,7 +64,7 @@ pub record IsStartless (held : Option Contents) (command : Command) (status : St
   pub prepared : Prepared held command
   pub refused : IsStartRefused prepared.work prepared.image status
 
--- a command is refused at one of its inputs
+-- a command is refused at one of its inputs, or since no run begins as they say
 abbrev pub IsCommandRefused : Reading → Command → Status → Type 0
 IsCommandRefused r command status = AreRefused r (sources_of command) status ⊎ IsStartless r.held command status
 

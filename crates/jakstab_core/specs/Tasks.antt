@@ -37,9 +37,9 @@ pub record IsRunWork (held : Option Contents) (name : List ℕ) (steps : ℕ) (w
 pub record IsReplayWork (held : Option Contents) (automaton taken : List ℕ) (work : Work) : Type 0 where
   pub against : Automaton
   pub told : OfBytes held (limit_of inputs.First) (File automaton) (λ text. automaton_read text ≡ Ok against)
-  pub steps : RunRecord
-  pub stated : OfBytes held (limit_of inputs.Second) (File taken) (λ text. StatesRecord text steps)
-  pub is : work ≡ works.Replay against steps
+  pub recorded : RunRecord
+  pub stated : OfBytes held (limit_of inputs.Second) (File taken) (λ text. StatesRecord text recorded)
+  pub is : work ≡ works.Replay against recorded
 
 -- the work of a command, its further inputs read
 abbrev pub IsTaskWork : Option Contents → Task → Work → Type 0

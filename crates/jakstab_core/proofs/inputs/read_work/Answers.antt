@@ -38,7 +38,7 @@ returns-in_ok-record-in-Replay-clause-read g c =
     rw (c.in-Replay.is) (record {
       against = c.in_ok-automaton-in-Replay.automaton;
       told = c.in_ok-automaton-in-Replay.ensures.read;
-      steps = c.in_ok-record-in-Replay.record;
+      recorded = c.in_ok-record-in-Replay.record;
       stated = subst P c.in_ok-automaton-in-Replay.ensures.contents c.in_ok-record-in-Replay.ensures.read;
       is = refl;
     })
