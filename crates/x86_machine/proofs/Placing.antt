@@ -13,8 +13,7 @@ use Rattle.memory_map.specs.declared.registers.Regs.{Regs}
 use Rattle.memory_map.specs.Image.{Image, has_exit_word}
 use Rattle.memory_map.specs.State.{Flags, MachineState, memory}
 use Rattle.memory_map.proofs.Lists.{all_apart-cons, all_apart-nil}
-use Rattle.statement_lang.specs.Filling.{bytes_of_fills}
-use Rattle.statement_lang.specs.Filling.{status_of, with_filled}
+use Rattle.statement_lang.specs.Filling.{bytes_of_fills, status_of, with_filled}
 use Rattle.statement_lang.specs.Indexed.{is_clear}
 use Rattle.x86_machine.specs.declared.start_fault.StartFault.{StartFault}
 use Rattle.x86_machine.specs.declared.start_fault.StartFault.TheVariants.{Align, Fill, Overlap, Window}

@@ -19,8 +19,7 @@ use Rattle.memory_map.specs.State.{MachineState, memory}
 use Rattle.memory_map.proofs.Faults.{pairs_apart, user_space}
 use Rattle.memory_map.proofs.Lists.{byte_at-here}
 use Rattle.memory_map.proofs.Mappings.{apart_mapped, inside_mapped, is_in}
-use Rattle.statement_lang.specs.Filling.{bytes_of_fills}
-use Rattle.statement_lang.specs.Filling.{fill_byte}
+use Rattle.statement_lang.specs.Filling.{bytes_of_fills, fill_byte}
 use Rattle.statement_lang.specs.Indexed.{nowhere}
 use Rattle.statement_lang.proofs.Indexing.{fill-mapping, has_in}
 use Rattle.x86_machine.specs.declared.start_fault.StartFault.{StartFault}

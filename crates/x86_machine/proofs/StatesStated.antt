@@ -23,8 +23,7 @@ use Rattle.memory_map.specs.State.{Flags, MachineState, memory}
 use Rattle.memory_map.proofs.Lists.{all_apart-cons, all_apart-nil}
 use Rattle.memory_map.proofs.Mappings.{apart_mapped, pairs_head, pairs_tail, same_at, same_length}
 use Rattle.x86_semantics.proofs.Storing.{byte-fits, byte_of}
-use Rattle.statement_lang.specs.Filling.{bytes_of_fills}
-use Rattle.statement_lang.specs.Filling.{fill_byte}
+use Rattle.statement_lang.specs.Filling.{bytes_of_fills, fill_byte}
 use Rattle.statement_lang.specs.Indexed.{nowhere}
 use Rattle.statement_lang.proofs.Indexing.{byte_placed, has_in}
 use Rattle.x86_machine.specs.declared.start_fault.StartFault.{StartFault}

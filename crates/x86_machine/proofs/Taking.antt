@@ -1,8 +1,7 @@
 -- What a step's answer says, by what stands at EIP.
-use Rattle.std.proofs.Common.{◌≡◌, ℕ, ◌+◌, ◌<◌, Bool, List, ◌++◌, length, take, drop, Option, Some, None, Ok, Err, refl, sym, ◌∙◌, ap, subst, inl, inr, append_assoc, arith}
+use Rattle.std.proofs.Common.{◌≡◌, ℕ, Bool, List, take, Option, Some, None, Ok, Err, refl, sym, ◌∙◌, ap, subst, inl, inr}
 use Rattle.std.specs.Prelude.{Result, MatchBool}
 use Rattle.std.proofs.lemmas.Bool.{eq-eqb}
-use Rattle.std.proofs.lemmas.List.{take-append-drop, take_all}
 use Rattle.memory_map.specs.declared.choice.Choice.{Choice}
 use Rattle.memory_map.specs.declared.fault.FaultKind.{FaultKind}
 use Rattle.memory_map.specs.declared.fault.FaultKind.TheVariants.{Fetch}
@@ -11,8 +10,8 @@ use Rattle.memory_map.specs.State.{MachineState}
 use Rattle.stub_file.specs.Stubs.{StatedStubs}
 use Rattle.x86_syntax.specs.declared.instr.Instr.{Instr}
 use Rattle.x86_syntax.specs.Decodes.{decoded}
-use Rattle.x86_syntax.specs.Spelling.{spelled}
-use Rattle.x86_decoder.specs.Refusals.{GoesOn, IsFront, LeavesAt}
+use Rattle.x86_decoder.specs.Refusals.{GoesOn, LeavesAt}
+use Rattle.x86_decoder.proofs.Fronts.{goes_on_front, not_both}
 use Rattle.x86_semantics.specs.Does.{does, ended}
 use Rattle.x86_semantics.specs.Operands.{Faulted, Next}
 use Rattle.x86_machine.specs.declared.outcome.Outcome.{Outcome}
@@ -70,14 +69,7 @@ module _ (bytes : List ℕ) (choice : Choice) (m : MachineState) (same : bytes �
 
 -- what goes on leaves nowhere
 pub leaves_ends : (at : ℕ) (bytes : List ℕ) → LeavesAt at (take 15 bytes) → GoesOn bytes → ⊥
-leaves_ends at bytes leaves on =
-    let few : length bytes < 15 = on.fewer in
-    let same : take 15 bytes ≡ bytes = take_all 15 bytes (omega arith) in
-    let k = at + 1 in
-    let whole : take k bytes ++ (drop k bytes ++ on.rest) ≡ bytes ++ on.rest = sym (append_assoc (take k bytes) (drop k bytes) on.rest) ∙ ap (λ ys. ys ++ on.rest) (take-append-drop k bytes) in
-    let front : IsFront (take k bytes) = (drop k bytes ++ on.rest, (on.whole.0, ap spelled whole ∙ on.whole.1)) in
-    let P : List ℕ → Type 0 = λ b. IsFront (take k b) in
-    leaves.there (subst P (sym same) front)
+leaves_ends at bytes leaves on = not_both at bytes leaves (goes_on_front bytes on)
 
 -- ---- the exit place
 

@@ -11,8 +11,7 @@ use Rattle.memory_map.specs.Range.{Range, has}
 use Rattle.memory_map.specs.Spans.{is_in_ranges, is_in_span}
 use Rattle.memory_map.specs.Start.{BASE_REACH, STACK_ABOVE, STACK_BELOW}
 use Rattle.memory_map.specs.State.{MachineState, memory}
-use Rattle.statement_lang.specs.Filling.{status_of, with_filled}
-use Rattle.statement_lang.specs.Filling.{bytes_of_fills}
+use Rattle.statement_lang.specs.Filling.{bytes_of_fills, status_of, with_filled}
 use Rattle.x86_machine.specs.declared.start_fault.StartFault.{StartFault}
 use Rattle.x86_machine.specs.declared.start_fault.StartFault.TheVariants.{Align, Fill, Overlap, Window}
 use Rattle.x86_machine.specs.declared.start_file.StartFile.{StartFile}
