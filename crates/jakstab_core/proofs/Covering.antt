@@ -166,9 +166,12 @@ stays_too : (image : Image) (stubs : StatedStubs) (a b : Automaton) → ((x : Ed
     → (m : MachineState) (states : List MachineState)
     → Follows (machine_of image stubs) (λ m. ⊤) (Contains (open_of b)) b.edges m states → Follows (machine_of image stubs) (λ m. ⊤) (Contains (open_of a)) a.edges m states
 stays_too image stubs a b edges opened m [] f = tt
-stays_too image stubs a b edges opened m (next ∷ rest) f = (tt, λ shut.
-    let step = f.1 (λ at. shut (opened m.eip at)) in
-    (edges (edge_of image m next) step.0, stays_too image stubs a b edges opened next rest step.1))
+stays_too image stubs a b edges opened m (next ∷ rest) f = (
+  tt,
+  λ shut.
+      let step = f.1 (λ at. shut (opened m.eip at)) in
+      (edges (edge_of image m next) step.0, stays_too image stubs a b edges opened next rest step.1),
+)
 
 pub replays_of_texts_find : ReplaysOfTextsFindEdges
 replays_of_texts_find image stubs options version a taken n from to loaded printed fits short read start verdict =

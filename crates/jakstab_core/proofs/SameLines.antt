@@ -224,7 +224,7 @@ in_map f (x ∷ xs) y h =
     ]
 
 only : (z y : List ℕ) → Contains (z ∷ []) y → z ≡ y
-only z y h = elim (Contains-cases z y [] h) [ | inl same ↦ same | inr later ↦ absurd (Contains-none y later) ]
+only z y h = elim (Contains-cases z y [] h) [ inl same ↦ same | inr later ↦ absurd (Contains-none y later) ]
 
 abbrev second : List ℕ → ℕ
 second l = get_or l 1 0
