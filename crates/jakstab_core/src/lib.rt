@@ -17,11 +17,15 @@ mod inputs;
 mod interval_tests;
 #[cfg(test)]
 mod known_code_tests;
+mod laws;
 #[cfg(test)]
 mod list_tests;
 #[cfg(test)]
 mod memory_tests;
 mod recover;
+#[cfg(test)]
+mod run_tests;
+mod running;
 #[cfg(test)]
 mod sample_files;
 #[cfg(test)]
@@ -35,5 +39,6 @@ mod tests;
 mod top;
 mod work;
 
+pub use laws::replays_find_edges;
 pub use status::{Input, Status};
 pub use top::jakstab;

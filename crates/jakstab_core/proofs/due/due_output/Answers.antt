@@ -7,7 +7,7 @@ use Rattle.command_words.specs.Words.{Command, Demo, command_of, on_image}
 use Rattle.jakstab_core.specs.Inputs.{Reading}
 use Rattle.jakstab_core.specs.Says.{Call}
 use Rattle.jakstab_core.proofs.Saying.{refused}
-use Rattle.jakstab_core.proofs.due.due_text.Goals as goal
+use Rattle.jakstab_core.proofs.due.due_output.Goals as goal
 
 pub returns-in-Ok-OnImage : goal.returns-in-Ok-OnImage
 returns-in-Ok-OnImage g c =
@@ -19,7 +19,7 @@ returns-in-Ok-OnImage g c =
     } in
     let accepted : command_of call.words ≡ Some asked = rw c.in-Ok-OnImage.field-0-is at c.in-Ok-OnImage.ensures in
     MatchResult-weaker c.on_image.result c.on_image.ensures
-    (λ text found. record { command = asked; accepted = accepted; fact = found })
+    (λ o found. record { command = asked; accepted = accepted; fact = found })
     (λ status why. refused call asked accepted status why)
 
 pub returns-in-Ok-Demo : goal.returns-in-Ok-Demo
@@ -31,5 +31,5 @@ returns-in-Ok-Demo g c =
     } in
     let accepted : command_of call.words ≡ Some asked = rw c.in-Ok-Demo.field-0-is at c.in-Ok-Demo.ensures in
     MatchResult-weaker c.on_demo.result (c.on_demo.ensures call.shelf)
-    (λ text found. record { command = asked; accepted = accepted; fact = found })
+    (λ o found. record { command = asked; accepted = accepted; fact = found })
     (λ status why. refused call asked accepted status why)
