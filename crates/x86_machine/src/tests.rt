@@ -198,7 +198,7 @@ fn start_file(alloc: Global, words: &str) -> Result<StartFile, Fail> {
             "ebx" => regs[3] = u32::from_str_radix(value, 16)?,
             "esp" => regs[4] = u32::from_str_radix(value, 16)?,
             "edi" => regs[7] = u32::from_str_radix(value, 16)?,
-            "f" => flags = u8::from_str_radix(value, 16)? % 64,
+            "f" => flags = u8::from_str_radix(value, 16)?,
             "fs" => fs = u32::from_str_radix(value, 16)?,
             "gs" => gs = u32::from_str_radix(value, 16)?,
             _ => fill.push(Fill {
@@ -209,7 +209,7 @@ fn start_file(alloc: Global, words: &str) -> Result<StartFile, Fail> {
     }
     Ok(StartFile {
         regs,
-        flags,
+        flags: flags % 64,
         fs,
         gs,
         fill: Items::from_vec(fill),
