@@ -1,10 +1,10 @@
 -- The texts of fields are plain, and are read as what they are of.
-use Rattle.std.proofs.Common.{◌≡◌, ◌≢◌, ℕ, zero, suc, ◌+◌, ◌*◌, ◌^◌, ◌/◌, ◌%◌, ◌<◌, ◌≤◌, ◌==◌, Bool, true, false, List, [], ◌∷◌, ◌++◌, length, Option, Some, None, refl, sym, ◌∙◌, ap, subst, arith, append_assoc, append-nil}
+use Rattle.std.proofs.Common.{◌≡◌, ℕ, zero, suc, ◌+◌, ◌*◌, ◌^◌, ◌/◌, ◌%◌, ◌<◌, ◌≤◌, Bool, true, false, List, [], ◌∷◌, length, Option, Some, refl, sym, ◌∙◌, ap, subst, arith}
 use Rattle.std.proofs.lemmas.Bool.Decides.{nat_tests}
 use Rattle.std.proofs.lemmas.List.Elements.{All-append, All-cons, All-nil}
-use Rattle.std.specs.Prelude.{All, option_and_then, option_map, if◌then◌else◌, flat_map, codes, nat_lt, ◌&&◌}
+use Rattle.std.specs.Prelude.{All, option_and_then, option_map, nat_lt, ◌&&◌}
 use Rattle.std.specs.List.{list_all}
-use Rattle.text_fields.specs.Hex.{hex2, hex8, hex_bytes, hex_digit, hex_digits, hex_text, number_after}
+use Rattle.text_fields.specs.Hex.{hex2, hex8, hex_digit, hex_digits, hex_text}
 use Rattle.memory_map.specs.declared.choice.Choice.{Choice}
 use Rattle.memory_map.specs.declared.choice.Fill.{Fill}
 use Rattle.x86_machine.specs.StartLaws.{IsFill}
@@ -12,13 +12,13 @@ use Rattle.run_replayer.specs.declared.record.EndWord.{EndWord}
 use Rattle.run_replayer.specs.declared.record.EndWord.TheVariants as ends
 use Rattle.run_replayer.specs.declared.record.RunStep.{RunStep}
 use Rattle.text_fields.specs.Fields.{byte_of, then_field, word_of}
-use Rattle.run_replayer.specs.Fields.{bases_of, bit_of, bits_of, choice_of, end_of, ending_of, fill_bytes_of, fill_of, fits_fill, flags_of, regs_of, six_flags_of, step_of, truth_of}
+use Rattle.run_replayer.specs.Fields.{bases_of, bit_of, bits_of, choice_of, ending_of, fill_bytes_of, fill_of, fits_fill, flags_of, regs_of, six_flags_of, step_of, truth_of}
 use Rattle.run_replayer.specs.Texts.{end_word, flag_digits, truth_digit}
 use Rattle.run_replayer.specs.Laws.{IsChoice, IsStep}
 use Rattle.text_fields.proofs.FieldTexts.{byte_read, bytes_read, word_read}
 use Rattle.run_replayer.proofs.FieldForms.{truth_read}
 use Rattle.run_replayer.proofs.LineTexts.{words_of}
-use Rattle.text_fields.proofs.Splitting.{ArePlain, IsPlain, one, none}
+use Rattle.text_fields.proofs.Splitting.{ArePlain, IsPlain, one}
 
 -- ---- plain texts
 

@@ -1,7 +1,6 @@
 -- The lines with which start files and records begin, when they are read, are the texts of what they state.
-use Rattle.std.proofs.Common.{◌≡◌, ℕ, Bool, true, false, List, [], ◌∷◌, ◌++◌, Option, Some, None, Ok, Err, refl, sym, ◌∙◌, ap, subst, append_assoc, append-nil}
-use Rattle.std.specs.Prelude.{Result, codes, flat_map, option_map, if◌then◌else◌}
-use Rattle.std.specs.Option.{ok_or}
+use Rattle.std.proofs.Common.{◌≡◌, ℕ, Bool, true, false, List, [], ◌∷◌, ◌++◌, Option, Some, None, Ok, Err, refl, sym, ◌∙◌, ap, append_assoc, append-nil}
+use Rattle.std.specs.Prelude.{Result, codes, option_map, if◌then◌else◌}
 use Rattle.std.specs.Str.{bytes_eq}
 use Rattle.std.proofs.lemmas.Slice.Eq.{bytes_eq-Decides}
 use Rattle.text_fields.specs.Line.{newline}
@@ -11,8 +10,8 @@ use Rattle.run_replayer.specs.declared.head.Due.{Due}
 use Rattle.run_replayer.specs.declared.head.Due.TheVariants as due
 use Rattle.run_replayer.specs.declared.head.Head.{Head}
 use Rattle.run_replayer.specs.Fields.{bases_of, regs_of, six_flags_of}
-use Rattle.text_fields.specs.Lines.{HEADER, WORD}
-use Rattle.run_replayer.specs.Grammar.{behind, behind_word, due_step, head_step, is_rest, or_field, or_word}
+use Rattle.text_fields.specs.Lines.{HEADER}
+use Rattle.run_replayer.specs.Grammar.{behind, behind_word, due_step, is_rest, or_field, or_word}
 use Rattle.run_replayer.specs.Texts.{bases_line, flags_line, regs_line}
 use Rattle.run_replayer.proofs.LineTexts.{bases_told, flags_told, regs_told}
 use Rattle.text_fields.proofs.Splitting.{fields_back, spaced}

@@ -1,5 +1,5 @@
 -- A verdict that a step is no edge shows a run that leaves the automaton there.
-use Rattle.std.proofs.Common.{◌≡◌, ℕ, ◌+◌, List, [], ◌∷◌, refl, sym, ◌∙◌, ap, subst, inl, inr}
+use Rattle.std.proofs.Common.{ℕ, ◌+◌, List, [], ◌∷◌, inl, inr}
 use Rattle.std.specs.Prelude.{Contains, ⊤}
 use Rattle.memory_map.specs.Image.{Image}
 use Rattle.memory_map.specs.State.{MachineState}
@@ -11,9 +11,8 @@ use Rattle.x86_machine.specs.Machine.{edge_of, machine_of}
 use Rattle.x86_machine.specs.StepBy.{StepBy, StepEnd, bad_choice, exited, faulted, no_stub, not_listed, stepped}
 use Rattle.run_replayer.specs.declared.record.RunRecord.{RunRecord}
 use Rattle.run_replayer.specs.declared.record.RunStep.{RunStep}
-use Rattle.run_replayer.specs.declared.verdict.Verdict.{Verdict}
-use Rattle.run_replayer.specs.declared.verdict.Verdict.TheVariants.{Inside, ReachedOpen, NotARun, NotAnEdge}
-use Rattle.run_replayer.specs.Verdict.{ByOutcome, Decides, IsTried, VerdictOf, open_of}
+use Rattle.run_replayer.specs.declared.verdict.Verdict.TheVariants.{NotAnEdge}
+use Rattle.run_replayer.specs.Verdict.{ByOutcome, Decides, VerdictOf, open_of}
 use Rattle.run_replayer.specs.Laws.{LeavesBy}
 
 module _ (image : Image) (stubs : StatedStubs) (edges : List Edge) (opened : List ℕ) where

@@ -1,6 +1,6 @@
 -- Lines that are read are the texts of what they state.
-use Rattle.std.proofs.Common.{◌≡◌, ℕ, Bool, true, false, List, [], ◌∷◌, ◌++◌, Option, Some, None, refl, sym, ◌∙◌, ap, subst, append_assoc, append-nil}
-use Rattle.std.specs.Prelude.{codes, find, flat_map, option_map, if◌then◌else◌}
+use Rattle.std.proofs.Common.{◌≡◌, ℕ, Bool, true, false, List, [], ◌∷◌, ◌++◌, Option, Some, None, refl, sym, ◌∙◌, ap, append_assoc, append-nil}
+use Rattle.std.specs.Prelude.{codes, find, option_map, if◌then◌else◌}
 use Rattle.std.specs.Str.{bytes_eq}
 use Rattle.std.proofs.lemmas.Slice.Eq.{bytes_eq-Decides}
 use Rattle.text_fields.specs.Hex.{hex2, hex8, hex_text}
@@ -8,12 +8,11 @@ use Rattle.text_fields.specs.Line.{newline, space}
 use Rattle.memory_map.specs.declared.choice.Choice.{Choice}
 use Rattle.memory_map.specs.declared.choice.Fill.{Fill}
 use Rattle.run_replayer.specs.declared.record.EndWord.{EndWord}
-use Rattle.run_replayer.specs.declared.record.EndWord.TheVariants as ends
 use Rattle.run_replayer.specs.declared.record.RunStep.{RunStep}
 use Rattle.text_fields.specs.Fields.{byte_of, word_of}
 use Rattle.run_replayer.specs.Fields.{bases_of, choice_of, end_of, end_words, ending_of, fill_bytes_of, fill_of, flags_of, regs_of, six_flags_of, step_of, truth_of}
 use Rattle.run_replayer.specs.Texts.{bases_line, choice_fields, end_word, fill_line, flag_digits, flags_line, regs_line, truth_digit, word_field, word_fields}
-use Rattle.text_fields.proofs.FieldTexts.{HasField, IsDone, byte_is, has_field, is_done, word_is}
+use Rattle.text_fields.proofs.FieldTexts.{HasField, byte_is, has_field, is_done, word_is}
 use Rattle.run_replayer.proofs.FieldForms.{fill_bytes_is, flags_is, truth_is}
 use Rattle.text_fields.proofs.Splitting.{spaced}
 

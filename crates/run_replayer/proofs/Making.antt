@@ -8,7 +8,7 @@ use Rattle.x86_machine.specs.StepBy.{StepBy, stepped}
 use Rattle.run_replayer.specs.declared.record.EndWord.{EndWord}
 use Rattle.run_replayer.specs.declared.record.EndWord.TheVariants as ends
 use Rattle.run_replayer.specs.declared.record.RunStep.{RunStep}
-use Rattle.run_replayer.specs.Record.{AreMade, GoesOn, Stops, later_choices, next_choice, step_of}
+use Rattle.run_replayer.specs.Record.{AreMade, Stops, later_choices, next_choice, step_of}
 
 later_choices-drop : (n : ℕ) (choices : List Choice) → later_choices (drop n choices) ≡ drop (suc n) choices
 later_choices-drop zero [] = refl

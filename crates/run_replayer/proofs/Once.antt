@@ -1,6 +1,6 @@
 -- A step has one outcome alone, a run one record, and a record one verdict.
-use Rattle.std.proofs.Common.{◌≡◌, ℕ, zero, suc, ◌+◌, ◌==◌, Bool, true, false, List, [], ◌∷◌, Option, Some, None, Ok, refl, sym, ◌∙◌, ap, subst, inl, inr}
-use Rattle.std.specs.Prelude.{Contains, MatchBool}
+use Rattle.std.proofs.Common.{◌≡◌, ℕ, zero, suc, ◌+◌, ◌==◌, Bool, true, false, List, [], ◌∷◌, Option, Some, None, sym, ◌∙◌, ap, subst, inl, inr}
+use Rattle.std.specs.Prelude.{MatchBool}
 use Rattle.memory_map.specs.declared.choice.Choice.{Choice}
 use Rattle.memory_map.specs.Image.{Image, EXIT_PLACE, name_at}
 use Rattle.memory_map.specs.State.{MachineState}
@@ -8,12 +8,11 @@ use Rattle.stub_file.specs.Stubs.{StatedStubs}
 use Rattle.flow_log.specs.declared.edge.Edge.{Edge}
 use Rattle.x86_syntax.specs.declared.instr.Instr.{Instr}
 use Rattle.x86_syntax.specs.Decodes.{decoded}
-use Rattle.x86_machine.specs.Machine.{edge_of}
 use Rattle.x86_machine.specs.StepBy.{AtInstr, AtName, StepBy, StepEnd, bad_choice, exited, faulted, fetched, no_stub, not_listed, stepped}
 use Rattle.run_replayer.specs.declared.record.EndWord.{EndWord}
 use Rattle.run_replayer.specs.declared.record.RunStep.{RunStep}
 use Rattle.run_replayer.specs.declared.verdict.Verdict.{Verdict}
-use Rattle.run_replayer.specs.Record.{AreMade, GoesOn, Stops, later_choices, next_choice, step_of, word_of}
+use Rattle.run_replayer.specs.Record.{AreMade, Stops, later_choices, next_choice, step_of, word_of}
 use Rattle.run_replayer.specs.Verdict.{ByOutcome, Decides, IsTried, Whether}
 
 -- ---- steps

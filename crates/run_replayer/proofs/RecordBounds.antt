@@ -1,13 +1,12 @@
 -- What a text states as a record is within its bounds.
-use Rattle.std.proofs.Common.{◌≡◌, ℕ, zero, suc, ◌+◌, ◌^◌, ◌<◌, Bool, true, false, List, [], ◌∷◌, ◌++◌, length, Option, Some, None, Ok, Err, refl, sym, ◌∙◌, ap, subst, arith}
+use Rattle.std.proofs.Common.{◌≡◌, ℕ, suc, ◌^◌, ◌<◌, Bool, true, false, List, [], ◌∷◌, ◌++◌, length, Some, Ok, Err, refl, sym, ◌∙◌, ap, subst, arith}
 use Rattle.std.proofs.lemmas.List.Elements.{All-append, All-cons, All-nil}
-use Rattle.std.specs.Prelude.{All, Result, codes, is_some, option_map, replicate, if◌then◌else◌}
+use Rattle.std.specs.Prelude.{All, Result, codes, option_map, if◌then◌else◌}
 use Rattle.std.specs.Str.{bytes_eq}
 use Rattle.text_fields.specs.Lines.{HEADER, WORD, fields, lines}
 use Rattle.text_fields.proofs.Splitting.{Tells, kept_lines}
-use Rattle.memory_map.specs.declared.choice.Choice.{Choice}
 use Rattle.memory_map.specs.declared.choice.Fill.{Fill}
-use Rattle.x86_machine.specs.StartLaws.{IsFill, IsStartFile}
+use Rattle.x86_machine.specs.StartLaws.{IsFill}
 use Rattle.run_replayer.specs.declared.head.Due.{Due}
 use Rattle.run_replayer.specs.declared.head.Due.TheVariants as due
 use Rattle.run_replayer.specs.declared.head.Head.{Head}
@@ -15,8 +14,8 @@ use Rattle.run_replayer.specs.declared.record.RunRecord.{RunRecord}
 use Rattle.run_replayer.specs.declared.record.RunStep.{RunStep}
 use Rattle.run_replayer.specs.declared.record_reader.RecordReader.{RecordReader}
 use Rattle.run_replayer.specs.Fields.{bases_of, ending_of, fill_of, regs_of, six_flags_of, step_of}
-use Rattle.run_replayer.specs.Grammar.{StatesRecord, due_step, head_step, is_rest, no_record, or_field, record_grammar, record_rest, record_step, with_fill, with_last, with_record_fill, with_step_fill, within}
-use Rattle.run_replayer.specs.Laws.{IsChoice, IsInBounds, IsStep}
+use Rattle.run_replayer.specs.Grammar.{StatesRecord, due_step, head_step, is_rest, no_record, or_field, record_grammar, record_rest, record_step, with_last, with_record_fill, with_step_fill, within}
+use Rattle.run_replayer.specs.Laws.{IsInBounds, IsStep}
 use Rattle.run_replayer.specs.Texts.{record_header}
 use Rattle.run_replayer.proofs.Bounds.{AreWords, bases_small, fill_small, no_word, one_word, regs_small, step_small}
 use Rattle.run_replayer.proofs.HeadTold.{behind_told, field_made, mapped}

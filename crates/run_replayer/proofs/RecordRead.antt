@@ -1,8 +1,8 @@
 -- The text of a record is read as that record.
-use Rattle.std.proofs.Common.{◌≡◌, ℕ, zero, suc, ◌+◌, ◌^◌, ◌<◌, ◌==◌, Bool, true, false, List, [], ◌∷◌, ◌++◌, length, Option, Some, None, Ok, Err, refl, sym, ◌∙◌, ap, subst, arith, append_assoc, append-nil}
+use Rattle.std.proofs.Common.{◌≡◌, ℕ, suc, ◌^◌, ◌<◌, ◌==◌, true, false, List, [], ◌∷◌, ◌++◌, length, Option, Some, None, Ok, refl, sym, ◌∙◌, ap, subst, arith, append_assoc, append-nil}
 use Rattle.std.proofs.lemmas.List.Elements.{All-append}
 use Rattle.std.proofs.lemmas.Slice.Eq.{bytes_eq-Decides}
-use Rattle.std.specs.Prelude.{All, Result, codes, flat_map, is_some, option_map, replicate}
+use Rattle.std.specs.Prelude.{All, codes, flat_map, is_some, option_map, replicate}
 use Rattle.std.specs.Str.{bytes_eq}
 use Rattle.text_fields.specs.Hex.{hex2, hex8, hex_text}
 use Rattle.text_fields.specs.Line.{newline, space}
@@ -16,11 +16,11 @@ use Rattle.run_replayer.specs.declared.record.EndWord.{EndWord}
 use Rattle.run_replayer.specs.declared.record.RunRecord.{RunRecord}
 use Rattle.run_replayer.specs.declared.record.RunStep.{RunStep}
 use Rattle.run_replayer.specs.declared.record_reader.RecordReader.{RecordReader}
-use Rattle.run_replayer.specs.Fields.{bases_of, ending_of, fill_of, regs_of, six_flags_of, step_of}
-use Rattle.run_replayer.specs.Grammar.{StatesRecord, behind_word, head_step, is_rest, no_record, or_field, or_word, record_grammar, record_rest, record_step, with_fill, with_last, with_record_fill, with_step_fill, within}
-use Rattle.run_replayer.specs.Laws.{IsChoice, IsInBounds, IsStep}
+use Rattle.run_replayer.specs.Fields.{bases_of, regs_of, six_flags_of}
+use Rattle.run_replayer.specs.Grammar.{StatesRecord, behind_word, head_step, is_rest, no_record, or_field, record_grammar, record_rest, record_step, with_record_fill, within}
+use Rattle.run_replayer.specs.Laws.{IsInBounds, IsStep}
 use Rattle.run_replayer.specs.Texts.{bases_line, choice_fields, end_word, fill_line, flag_digits, flags_line, record_header, record_text, regs_line, start_lines, step_lines, truth_digit, word_field}
-use Rattle.run_replayer.proofs.FieldReads.{bare, bases_read, byte_plain, bytes_plain, choice_fields_of, end_plain, end_read, fill_read, flags_plain, plain_by, regs_read, six_flags_read, step_read, truth_plain, word_plain, words_plain}
+use Rattle.run_replayer.proofs.FieldReads.{bases_read, byte_plain, bytes_plain, choice_fields_of, end_plain, end_read, fill_read, flags_plain, plain_by, regs_read, six_flags_read, step_read, truth_plain, word_plain, words_plain}
 use Rattle.run_replayer.proofs.FillFacts.{filled_step}
 use Rattle.run_replayer.proofs.LineTexts.{bases_explicit, choice_explicit, fill_explicit, flags_explicit, regs_explicit, words_of, words_spaced}
 use Rattle.text_fields.proofs.Splitting.{ArePlain, IsPlain, Reaches, fields_spaced, none, one, plain_line, reaches_both, reaches_end, reaches_line, reaches_none, spaced, spaced_line}

@@ -1,6 +1,6 @@
 -- A text that is read as a run record is that record's text.
 use Rattle.std.proofs.Common.{◌≡◌, ℕ, Bool, true, false, List, [], ◌∷◌, ◌++◌, Option, Some, None, Ok, Err, refl, sym, ◌∙◌, ap, subst, append_assoc, append-nil}
-use Rattle.std.specs.Prelude.{Result, codes, flat_map, is_some, option_map, if◌then◌else◌}
+use Rattle.std.specs.Prelude.{codes, flat_map, is_some, option_map, if◌then◌else◌}
 use Rattle.std.specs.Str.{bytes_eq}
 use Rattle.std.proofs.lemmas.Slice.Eq.{bytes_eq-Decides}
 use Rattle.text_fields.specs.Line.{newline}
@@ -9,13 +9,12 @@ use Rattle.memory_map.specs.declared.choice.Fill.{Fill}
 use Rattle.run_replayer.specs.declared.record.EndWord.{EndWord}
 use Rattle.run_replayer.specs.declared.record.RunRecord.{RunRecord}
 use Rattle.run_replayer.specs.declared.record.RunStep.{RunStep}
-use Rattle.run_replayer.specs.declared.head.Due.{Due}
 use Rattle.run_replayer.specs.declared.head.Due.TheVariants as due
 use Rattle.run_replayer.specs.declared.head.Head.{Head}
 use Rattle.run_replayer.specs.declared.record_reader.RecordReader.{RecordReader}
 use Rattle.run_replayer.specs.Fields.{ending_of, fill_of, step_of}
 use Rattle.text_fields.specs.Lines.{WORD}
-use Rattle.run_replayer.specs.Grammar.{IsRecord, StatesRecord, head_step, is_rest, no_record, or_field, record_grammar, record_read, record_rest, record_step, with_last, with_record_fill, with_step_fill, within}
+use Rattle.run_replayer.specs.Grammar.{IsRecord, StatesRecord, head_step, is_rest, no_record, or_field, record_grammar, record_read, record_rest, record_step, with_record_fill, with_step_fill, within}
 use Rattle.run_replayer.specs.Texts.{bases_line, choice_fields, end_word, fill_line, flags_line, record_header, record_text, regs_line, start_lines, step_lines, word_field}
 use Rattle.run_replayer.proofs.HeadTold.{due_told, field_made, first_gains, four, fourth_gains, mapped, second_gains, third_gains, told_due, told_due-fill, told_due-rest}
 use Rattle.run_replayer.proofs.LineTexts.{ending_told, fill_told, step_told}

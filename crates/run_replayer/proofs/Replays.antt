@@ -1,5 +1,5 @@
 -- The verdict of steps: by an index as by the automaton itself, and by each rule in its turn.
-use Rattle.std.proofs.Common.{◌≡◌, ◌≢◌, ℕ, Bool, true, false, suc, ◌+◌, ◌<◌, ◌≤◌, ◌⊎◌, List, [], ◌∷◌, length, drop, get_or, refl, sym, ◌∙◌, ap, subst, inl, inr, Some, arith, drop-cons}
+use Rattle.std.proofs.Common.{◌≡◌, ◌≢◌, ℕ, Bool, true, false, suc, ◌+◌, ◌<◌, List, [], ◌∷◌, length, drop, get_or, refl, sym, ◌∙◌, ap, subst, inl, inr, Some, arith, drop-cons}
 use Rattle.std.proofs.lemmas.List.{drop_all}
 use Rattle.std.specs.Prelude.{Contains}
 use Rattle.memory_map.specs.Image.{Image}
@@ -17,7 +17,7 @@ use Rattle.run_replayer.specs.declared.verdict.RunKind.TheVariants as kinds
 use Rattle.run_replayer.specs.declared.verdict.Verdict.{Verdict}
 use Rattle.run_replayer.specs.declared.verdict.Verdict.TheVariants.{Inside, ReachedOpen, NotARun, NotAnEdge}
 use Rattle.run_replayer.specs.Replaying.{Ends, IsIndex, MakesNone, Passes, kind_of}
-use Rattle.run_replayer.specs.Verdict.{ByOutcome, Decides, IsTried, Whether, open_of}
+use Rattle.run_replayer.specs.Verdict.{ByOutcome, Decides, Whether, open_of}
 
 module _ (image : Image) (stubs : StatedStubs) (i : Index) (n : ℕ) (m : MachineState) (s : RunStep) where
   pub passes : (next : MachineState) → (Contains i.opened m.eip → ⊥) → m.eip ≡ s.from → StepBy image stubs s.choice m (stepped next) → next.eip ≡ s.to

@@ -1,5 +1,5 @@
 -- What a binary search tells of a sorted list.
-use Rattle.std.proofs.Common.{◌≡◌, ℕ, ◌<◌, ◌≤◌, Bool, List, length, refl, sym, ◌∙◌, ap, subst, arith, Result, Ok, Err, true, ◌⊎◌, inl, inr}
+use Rattle.std.proofs.Common.{◌≡◌, ℕ, ◌<◌, Bool, List, length, refl, sym, ◌∙◌, ap, subst, arith, Result, Ok, Err, inl, inr}
 use Rattle.std.specs.Prelude.{Contains, IsTrue, ◌↔◌, is_ok, slice_index_or}
 use Rattle.std.specs.Cmp.{IsTotalOrder}
 use Rattle.std.specs.List.Sorted.{IsBinarySearchResult, IsPermutation, IsSearchInRange, IsSorted}

@@ -1,5 +1,5 @@
 -- A text that is read as a start file is that start file's text.
-use Rattle.std.proofs.Common.{◌≡◌, ℕ, Bool, true, false, List, [], ◌∷◌, ◌++◌, Option, Some, None, Ok, Err, refl, sym, ◌∙◌, ap, subst, append_assoc, append-nil}
+use Rattle.std.proofs.Common.{◌≡◌, ℕ, Bool, true, false, List, [], ◌∷◌, ◌++◌, Some, Ok, Err, refl, sym, ◌∙◌, ap, subst, append_assoc, append-nil}
 use Rattle.std.specs.Prelude.{Result, codes, flat_map, option_map, if◌then◌else◌}
 use Rattle.std.specs.Str.{bytes_eq}
 use Rattle.std.proofs.lemmas.Slice.Eq.{bytes_eq-Decides}
@@ -8,14 +8,13 @@ use Rattle.text_fields.specs.Lines.{fields, lines}
 use Rattle.memory_map.specs.declared.choice.Choice.{Choice}
 use Rattle.memory_map.specs.declared.choice.Fill.{Fill}
 use Rattle.x86_machine.specs.declared.start_file.StartFile.{StartFile}
-use Rattle.run_replayer.specs.declared.head.Due.{Due}
 use Rattle.run_replayer.specs.declared.head.Due.TheVariants as due
 use Rattle.run_replayer.specs.declared.head.Head.{Head}
 use Rattle.run_replayer.specs.declared.start_reader.StartReader.{StartReader}
 use Rattle.text_fields.specs.Fields.{no_more}
 use Rattle.run_replayer.specs.Fields.{choice_of, fill_of}
 use Rattle.text_fields.specs.Lines.{WORD}
-use Rattle.run_replayer.specs.Grammar.{IsStart, StatesStart, head_step, is_rest, no_start, or_field, start_grammar, start_rest, start_step, with_fill, with_head_fill, with_last, with_start_fill, within}
+use Rattle.run_replayer.specs.Grammar.{IsStart, StatesStart, head_step, is_rest, no_start, or_field, start_grammar, start_rest, start_step, with_fill, with_last, with_start_fill, within}
 use Rattle.run_replayer.specs.Texts.{bases_line, choice_fields, choice_lines, fill_line, flags_line, regs_line, start_header, start_lines, start_text}
 use Rattle.text_fields.proofs.FieldTexts.{is_done}
 use Rattle.run_replayer.proofs.HeadTold.{due_told, field_made, first_gains, four, fourth_gains, mapped, second_gains, third_gains, told_due, told_due-fill, told_due-rest}

@@ -1,5 +1,5 @@
 -- What holds of all records and verdicts.
-use Rattle.std.specs.Prelude.{ℕ, ◌≡◌, ◌<◌, ◌^◌, ⊤, List, [], All, Contains, Ok}
+use Rattle.std.specs.Prelude.{ℕ, ◌≡◌, ◌<◌, ◌^◌, ⊤, List, All, Contains, Ok}
 use Rattle.memory_map.specs.declared.choice.Choice.{Choice}
 use Rattle.memory_map.specs.Image.{Image}
 use Rattle.memory_map.specs.State.{MachineState}

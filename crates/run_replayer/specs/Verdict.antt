@@ -10,7 +10,6 @@ use Rattle.x86_machine.specs.Machine.{edge_of}
 use Rattle.x86_machine.specs.StepBy.{StepEnd, StepBy, stepped, faulted, not_listed, no_stub, exited, bad_choice}
 use Rattle.run_replayer.specs.declared.record.RunStep.{RunStep}
 use Rattle.run_replayer.specs.declared.record.RunRecord.{RunRecord}
-use Rattle.run_replayer.specs.declared.verdict.RunKind.{RunKind}
 use Rattle.run_replayer.specs.declared.verdict.RunKind.TheVariants as kinds
 use Rattle.run_replayer.specs.declared.verdict.Verdict.{Verdict}
 use Rattle.run_replayer.specs.declared.verdict.Verdict.TheVariants.{Inside, ReachedOpen, NotARun, NotAnEdge}

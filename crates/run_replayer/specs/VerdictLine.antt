@@ -1,6 +1,5 @@
 -- The line that says a verdict: ASCII, ended by one byte 0A.
 use Rattle.std.specs.Prelude.{ℕ, Bool, true, false, List, ◌++◌, codes, decimal}
-use Rattle.text_fields.specs.Hex.{hex8}
 use Rattle.text_fields.specs.Line.{newline, space}
 use Rattle.run_replayer.specs.Texts.{word_field}
 use Rattle.run_replayer.specs.declared.verdict.RunKind.{RunKind}

@@ -1,4 +1,4 @@
-ghost use Rattle.std.specs.Prelude.{◌≡◌, ◌++◌, ◌∷◌, ◌<◌, [], IfOk, OnOk, flat_map};
+ghost use Rattle.std.specs.Prelude.{◌≡◌, ◌++◌, ◌<◌, IfOk, OnOk, flat_map};
 ghost use Rattle.run_replayer.specs.Texts.{bases_line, bit_digit, choice_fields, end_word, fill_line, flag_digits, flags_line, record_text, regs_line, start_lines, step_lines, truth_digit, word_field, word_fields};
 
 use crate::{EndWord, RunRecord, RunStep};

@@ -1,9 +1,9 @@
-ghost use Rattle.std.specs.Prelude.{◌≡◌, ◌<◌, ◌^◌, IfOk, MatchOption, MatchResult, length, None, option_copied};
+ghost use Rattle.std.specs.Prelude.{◌≡◌, ◌<◌, ◌^◌, IfOk, MatchOption, MatchResult, length, None};
 ghost use Rattle.memory_map.specs.Image.{name_at};
 ghost use Rattle.x86_machine.specs.Machine.{instr_bytes, label_at};
-ghost use Rattle.x86_machine.specs.StepBy.{StepBy, fetched, stepped};
+ghost use Rattle.x86_machine.specs.StepBy.{StepBy, stepped};
 ghost use Rattle.x86_syntax.specs.Decodes.{decoded};
-ghost use Rattle.run_replayer.specs.Replaying.{Ends, IsIndex, MakesNone, Passes};
+ghost use Rattle.run_replayer.specs.Replaying.{Ends, MakesNone, Passes};
 ghost use Rattle.run_replayer.specs.StartRefused.{IsRefused};
 ghost use Rattle.run_replayer.specs.Verdict.{Decides, VerdictOf};
 

@@ -1,4 +1,4 @@
-use Rattle.std.proofs.Common.{◌≡◌, ℕ, Ok, sym, ◌∙◌, ap, subst}
+use Rattle.std.proofs.Common.{◌≡◌, Ok, sym, ◌∙◌, subst}
 use Rattle.memory_map.specs.State.{MachineState}
 use Rattle.x86_machine.specs.declared.start_fault.StartFault.{StartFault}
 use Rattle.std.specs.Prelude.{Result}

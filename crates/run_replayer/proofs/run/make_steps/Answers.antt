@@ -1,4 +1,4 @@
-use Rattle.std.proofs.Common.{◌≡◌, sym, ◌∙◌, ap, subst, arith}
+use Rattle.std.proofs.Common.{subst, arith}
 use Rattle.memory_map.specs.declared.choice.Choice.{Choice}
 use Rattle.run_replayer.specs.Record.{IsNext}
 use Rattle.run_replayer.proofs.Making.{all_made, one_more, stopped}
