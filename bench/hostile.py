@@ -27,6 +27,7 @@ import struct
 import sys
 import tempfile
 
+import first_fault
 import forms
 import worst
 
@@ -53,9 +54,10 @@ WORDS += [0xFFFFFFFF, 0xFFFFFFFC, 0xFFFFF000, forms.BASE, forms.TABLES, 0x400000
 CODE = """90 F4 CC C3 C9 EBFE EB00 7400 75FD 0F84 0F85 E800000000 E9 FFE0 FFD0 FF25 FF15 FF2485 FF3424 50 58 54 5C 6A00 68 B8 BF
     89C8 8908 8B00 8901 A1 A3 A2 A0 C6 C7 0105 81EC 81C4 83EC10 83F802 83F87F 3D 7607 7707 E2FE E3 F3AA F2AE F3A5 A4 AB F7F1 F6 D3E0 C1E0
     0FA4 0FB1 0FC1 0FBC 0FBD 0FA3 0FBA 0F94C0 0F44 0FB6 0FBF 66 64 65 F0 F2 F3 2E CD80 0F0B 87 99 98 9E 9F FC FD C20400 C8 62 C4 D9""".split()
-STUB_WORDS = """args cleans reply number size size_arg zeroed may_fail enter_arg writes arg length length_arg stub stack_align any block never enter
-    malloc exit puts fill ExitProcess __libc_start_main k.dll#7 true false -1 0 1 2 3 4 8 16 64 65 68 4096 4097 67108864 67108865 4294967295 4294967296
-    9223372036854775807 9223372036854775808 -9223372036854775808 0x10 0b1 1e3 inf nan 1979-05-27 "" "any" 'never' [] {} [[]] [{}] """.split()
+STUB_KEYS = "args cleans reply number size size_arg zeroed may_fail enter_arg writes arg length length_arg stub stack_align malloc exit other k.dll#7".split()
+STUB_VALUES = """true false -1 0 1 2 3 4 8 16 64 65 68 4096 4097 67108864 67108865 4294967295 4294967296 9223372036854775807 9223372036854775808 0x10 0b1
+    1e3 inf 1979-05-27 "" "any" "number" "block" 'never' "enter" "Any" [] {} [[]] [{}] [{arg=0,length=4}] [{arg=0}] [{arg=0,length=1,length_arg=0}]
+    [{arg=0,length=67108865}] [{arg=0,size=4}] [{arg=0,length=4},{arg=0,length=4},{arg=0,length=4},{arg=0,length=4},{arg=0,length=0}]""".split()
 START = b"jakstab-start 1\nregs 00000000 00000000 00000000 00000000 BFFF0000 00000000 00000000 00000000\nflags 000000\nbases 10000000 20000000\n"
 FILLS = [b"fill BFFF0000 00000000\n", b"fill 10000014 78563412\n", b"choice 00 00000000 00000000 00000000 20010000 0\n", b"choice 3F FFFFFFFF 00000001 00000002 00000000 1\n"]
 
@@ -95,36 +97,45 @@ def words_near(draw):
     return struct.pack("<I", (draw.choice([forms.BASE, forms.TABLES, 0, 1]) + draw.randrange(0, 64)) & 0xFFFFFFFF)
 
 
-def number_for(draw, size):
-    """A number at the end of some range, perhaps of a file of that size."""
-    n = draw.choice(WORDS + [size, size - 1, size + 1])
-    return n + draw.choice([0, 0, 0, 1, -1])
+def number_for(draw, file):
+    """A number at the end of some range, perhaps of that file, or near a word of the file."""
+    size = len(file)
+    if size >= 4 and draw.random() < 0.5:
+        at = draw.randrange(size - 3)
+        n = int.from_bytes(file[at : at + 4], "little")
+    else:
+        n = draw.choice(WORDS + [size, size - 1, size + 1])
+    return n + draw.choice([0, 0, 1, -1, 4, -4, 16])
+
+
+def place_in(draw, file):
+    """A place in the file: seldom in its first bytes, often in its headers."""
+    size, kind = len(file), draw.randrange(10)
+    if size < 64 or kind == 0:
+        return draw.randrange(size) if size else 0
+    return draw.randrange(52, min(size, 300)) if kind < 6 else draw.randrange(min(64, size - 1), size)
 
 
 def damaged(draw, file):
     """The file after one change."""
-    size, kind = len(file), draw.randrange(12)
-    at = draw.randrange(min(size, 400) if draw.random() < 0.7 else size) if size else 0
+    kind, at = draw.randrange(20), place_in(draw, file)
     if kind == 0:
-        return file[: draw.randrange(size + 1)]
+        return file[: draw.choice([draw.randrange(len(file) + 1), max(0, len(file) - draw.randrange(1, 17))])]
     if kind == 1:
         return file + draw.randbytes(draw.randrange(1, 64))
     if kind == 2:
         some = draw.randrange(1, 17)
-        return file[:at] + file[draw.randrange(size or 1) :][:some] + file[at + some :]
+        return file[:at] + file[place_in(draw, file) :][:some] + file[at + some :]
     if kind == 3:
         return file[:at] + draw.randbytes(draw.randrange(1, 5)) + file[at:]
     if kind == 4:
         return file[:at] + file[at + draw.randrange(1, 9) :]
-    if kind in (5, 6):
+    if kind < 10:
         new = bytes([draw.choice([0, 1, 2, 5, 6, 7, 8, 10, 0x7F, 0x80, 0xFF, draw.randrange(256)])])
-    elif kind == 7:
-        new = struct.pack("<H", number_for(draw, size) & 0xFFFF)
-    elif kind == 8:
-        old = int.from_bytes(file[at & ~3 : (at & ~3) + 4], "little")
-        at, new = at & ~3, struct.pack("<I", (old + draw.choice([1, -1, 4, -4, 0x1000, -0x1000, 0x400000])) & 0xFFFFFFFF)
+    elif kind == 10:
+        new = struct.pack("<H", number_for(draw, file) & 0xFFFF)
     else:
-        at, new = at & ~3, struct.pack("<I", number_for(draw, size) & 0xFFFFFFFF)
+        at, new = at & ~3, struct.pack("<I", number_for(draw, file) & 0xFFFFFFFF)
     return file[:at] + new + file[at + len(new) :]
 
 
@@ -144,25 +155,24 @@ def damaged_text(draw, text):
         lines[i], lines[j] = lines[j], lines[i]
     else:
         fields = lines[i].split(b" ")
-        fields[draw.randrange(len(fields))] = draw.choice([b"%08X" % (number_for(draw, 99) & 0xFFFFFFFF), b"%d" % number_for(draw, 99), b"", b"-", b"00", b"import", b"step", b"fill"])
+        fields[draw.randrange(len(fields))] = draw.choice([b"%08X" % (number_for(draw, b"") & 0xFFFFFFFF), b"%d" % number_for(draw, b""), b"", b"-", b"00", b"import", b"step", b"fill"])
         lines[i] = b" ".join(fields)
     return b"\n".join(lines)
 
 
 def damaged_stubs(draw, text):
     """The stub file after one change."""
-    kind = draw.randrange(8)
+    kind = draw.randrange(10)
+    key, value = draw.choice(STUB_KEYS).encode(), draw.choice(STUB_VALUES).encode()
     if kind == 0:
         return damaged_text(draw, text)
-    word = draw.choice(STUB_WORDS).encode()
-    found = list(re.finditer(rb"[A-Za-z0-9_\"]+", text))
-    if kind < 6 and found:
-        place = draw.choice(found)
-        return text[: place.start()] + word + text[place.end() :]
-    line = draw.choice([b"%s = %s\n", b"[stub.%s]\n%s = 4\n", b"[%s.%s]\n", b"[[stub.%s]]\nargs = %s\n", b"stub.%s.args = %s\n", b"[stub.'%s %s']\n", b"# %s \xff%s\n"])
-    other = draw.choice(STUB_WORDS).encode()
+    found = list(re.finditer(rb"= *([^\n]+)", text) if kind < 6 else re.finditer(rb"[A-Za-z0-9_]+", text))
+    if kind < 7 and found:
+        start, end = draw.choice(found).span(1 if kind < 6 else 0)
+        return text[:start] + (value if kind < 6 else key) + text[end:]
+    line = b"%s = %s\n" if kind < 9 else draw.choice([b"[stub.%s]\nargs = %s\n", b"[%s]\nargs = %s\n", b"[[stub.%s]]\nargs = %s\n", b"stub.%s.args = %s\n", b"# %s \xff%s\n"])
     lines = text.splitlines(True)
-    lines.insert(draw.randrange(len(lines) + 1), line % (word, other))
+    lines.insert(draw.randrange(len(lines) + 1), line % (key, value))
     return b"".join(lines)
 
 
@@ -171,12 +181,12 @@ class Case:
 
     def __init__(self, known, seed, number):
         draw = random.Random(f"{seed} {number}")
-        base = draw.randrange(len(known.bases))
+        base = draw.choice([2, 3, 3, *range(4, 10), draw.randrange(len(known.bases))])
         image, self.entry, stubs = known.bases[base]
         texts = known.texts[base] if known.runs else []
-        if draw.random() < 0.3:
+        if draw.random() < 0.2:
             image, self.entry = forms.form_e(drawn_code(draw), draw.choice([5, 7])), forms.BASE
-        for _ in range(draw.choice([0, 1, 1, 1, 2, 3, 6])):
+        for _ in range(draw.choice([0, 1, 1, 1, 2, 2, 4])):
             image = damaged(draw, image)
         for _ in range(draw.choice([0, 0, 1, 2, 4])):
             stubs = damaged_stubs(draw, stubs or forms.MALLOC)
@@ -192,7 +202,7 @@ class Case:
 
     def chosen(self, draw, number, runs):
         stubs = draw.choice([[], ["--stubs", "stubs"]])
-        at = draw.choice([self.entry, self.entry, self.entry + draw.randrange(64), number_for(draw, 99) & 0xFFFFFFFF])
+        at = draw.choice([self.entry, self.entry, self.entry + draw.randrange(64), number_for(draw, b"") & 0xFFFFFFFF])
         out = [["list", "image", *stubs], ["decode", "image", "%08X" % at, str(draw.choice([1, 20, 1000]))]]
         for domain in ("flat", "bounded", "interval"):
             k = draw.choice([1, 4, 32, 32, 200])
@@ -311,26 +321,28 @@ def fault_of(command, ended):
     return None if is_whole(command, ended.out) else "output cut off"
 
 
-def differ(notes, refusal):
-    return any(note.startswith(refusal) for note in notes) and len(notes) > 1
-
-
-def refusals_differ(ends):
-    """Whether an image or a stub file is refused by one command and not, or otherwise, by another."""
-    ends = [(command, ended.note) for command, ended in ends if command[0] != "demo" and ended.status in (0, 1, 5, 6, 8)]
-    with_stubs = {note for command, note in ends if "--stubs" in command}
-    return differ({note for _, note in ends}, b"jakstab: image") or differ(with_stubs - {b""}, b"jakstab: stubs") and not with_stubs <= {b""}
+def refusal_fault(files, command, ended):
+    """Whether the files are refused otherwise than for their first fault, or are not refused and have one, or nothing."""
+    if command[0] == "demo" or ended.status not in (0, 1, 5, 6, 8):
+        return None
+    number, kind = first_fault.image_fault(files["image"]), b"image"
+    if number == 0 and "--stubs" in command:
+        number, kind = first_fault.stubs_fault(files["stubs"]), b"stubs"
+    due = b"jakstab: %s refused %d\n" % (kind, number) if number else b""
+    if number is None or ended.note == due or not due and ended.status not in (5, 6):
+        return None
+    return f"{due or 'no refusal'} is due and {ended.note} came"
 
 
 class Found:
     def __init__(self):
         self.ends, self.faults, self.slowest, self.runs = collections.Counter(), [], (0, 0, []), 0
 
-    def take(self, number, command, ended):
+    def take(self, number, files, command, ended):
         self.runs += 1
         self.ends[command[0], ended.status] += 1
         self.slowest = max(self.slowest, (ended.seconds, number, command))
-        fault = fault_of(command, ended)
+        fault = fault_of(command, ended) or refusal_fault(files, command, ended)
         if fault:
             self.faults.append((number, fault, command))
 
@@ -348,11 +360,8 @@ def try_numbers(known, seed, numbers):
         for number in numbers:
             case = Case(known, seed, number)
             runner.put(case.files)
-            ends = [(command, runner.run(command)) for command in case.commands]
-            for command, ended in ends:
-                found.take(number, command, ended)
-            if refusals_differ(ends):
-                found.faults.append((number, "refused by one command alone", []))
+            for command in case.commands:
+                found.take(number, case.files, command, runner.run(command))
     return found
 
 
@@ -402,7 +411,7 @@ def try_one(options):
     runner, bad = Runner(known.program, folder), False
     for command in case.commands:
         ended = runner.run(command)
-        fault = fault_of(command, ended)
+        fault = fault_of(command, ended) or refusal_fault(case.files, command, ended)
         bad = bad or fault is not None
         print(f"status {ended.status:3} {ended.seconds:.3f} s {' '.join(command)}  {ended.note.decode(errors='replace').strip()}  {fault or ''}")
     print(f"its files are in {folder}")
