@@ -122,8 +122,8 @@ def two_segments(code, size):
 
 
 def unknown_stores():
-    """20,000 bytes of memory, no two beside one another, that become unknown one after another."""
-    code = b"".join(b"\xa2" + words(TABLES + 2 * i) for i in range(20_000)) + b"\xf4"
+    """20,000 bytes of memory, no two beside one another, that become unknown one after another, and a jump to itself."""
+    code = b"".join(b"\xa2" + words(TABLES + 2 * i) for i in range(20_000)) + b"\xeb\xfe"
     return recovered(two_segments(code, 65_536))
 
 
@@ -169,6 +169,38 @@ def decoded():
     return {"image": form_e(b"\x90" * 16_000_000)}, ["decode", "image", "%08X" % BASE, "100000"]
 
 
+START = b"regs 00000000 00000000 00000000 00000000 BFFF0000 00000000 00000000 00000000\nflags 000000\nbases 10000000 20000000\n"
+
+
+def run_unset():
+    """A run over 1,000 relocations that each leave the same 50 MB unknown. A program that knows no `run` has status 2."""
+    rel, symbol = words(TABLES, 0x105) * 1_000, words(0, 0, 50_000_000, 0x10011)
+    tables = rel + bytes(16) + symbol + b"\0" * 8
+    at = TABLES + len(rel)
+    section = dynamic(rel=TABLES, relsz=len(rel), symtab=at, strtab=at + 32, strsz=1)
+    segments = [(PT_LOAD, 0, BASE, 1, 1, 5), (PT_LOAD, 1, TABLES, len(tables), 60_000_000, 6), (PT_DYNAMIC, 1 + len(tables), 0, len(section), len(section), 6)]
+    image = elf(segments, b"\xf4" + tables + section)
+    return {"image": image, "start": b"jakstab-start 1\n" + START + b"end\n"}, ["run", "image", "start", "0"]
+
+
+def run_fills():
+    """A run over 524,288 unset ranges, whose start file fills each byte of the last of them, 1,000 times."""
+    rel = b"".join(words(TABLES + 8 + 8 * i, 10) for i in range(TABLE // 8))
+    fill = b"fill %08X 00000000\n" % (TABLES + TABLE)
+    return {"image": relocated(b"\xf4", rel, b"", b""), "start": b"jakstab-start 1\n" + START + fill * 1_000 + b"end\n"}, ["run", "image", "start", "0"]
+
+
+def replay_long():
+    """A replay of a record without steps in an automaton of 60 MB, whose each line is an edge."""
+    count = 1_400_000
+    edges = b"".join(b"edge %08X %08X 90 nop\n" % (BASE, n) for n in range(count))
+    places = b"".join(b"loc %08X\n" % n for n in range(count))
+    text = b"jakstab-automaton 1\nentry %08X\n" % BASE + places + b"loc %08X\n" % BASE + edges + b"end %d %d 0\n" % (count + 1, count)
+    files = {"image": form_e(b"\xf4"), "automaton": text, "record": b"jakstab-record 1\n" + START + b"end steps\n"}
+    return files, ["replay", "image", "automaton", "record"]
+
+
 CASES = {make.__name__: make for make in (elf_long_name, elf_many_names, elf_many_segments, elf_unset, elf_unset_code, elf_dynamic, elf_zeros)}
 CASES |= {make.__name__: make for make in (pe_ordinals, pe_descriptors, stub_long_header, stub_nested, stub_many, decoded)}
 CASES |= {make.__name__: make for make in (stores, unknown_stores, product_of_values, product_of_many, product_of_more, blocks, long_import)}
+CASES |= {make.__name__: make for make in (run_unset, run_fills, replay_long)}
