@@ -1,15 +1,15 @@
 #!/usr/bin/env python3
 """Runs the program on damaged files and demands that each run ends as README.md lists it.
 
-    bench/hostile.py [--program PROGRAM] [--files N] [--seed S] [--jobs J] [--keep FOLDER] [--one I]
+    bench/hostile.py [--program PROGRAM] [--files N] [--first I] [--seed S] [--jobs J] [--keep FOLDER] [--one I]
     bench/hostile.py --worst [--program PROGRAM] [--keep FOLDER] [NAME..]
 
 PROGRAM is the proved and built program, crates/jakstab_main/out/jakstab_main where none is given (`./jakstab` builds it).
 File i of a seed is always the same: an image with a stub file, where the program knows `run` also a start file, an automaton
 and a record, made from the samples and from worked files by a few changes. Every command is run on them with 2 seconds of
 processor time and 512 MiB. A finding is an ending by a signal or by the time, a status that is not listed, another line on
-standard error than the status's, output beside a refusal, output that is cut off, or a file that is refused by one command and
-not by another. Printed are how many runs ended with each status, the slowest run, and the findings; their files are kept in
+standard error than the status's, output beside a refusal, output that is cut off, or a refusal that is not for the first fault,
+which `first_fault.py` finds apart from the program. Printed are how many runs ended with each status, the slowest run, and the findings; their files are kept in
 FOLDER. The status is 1 where anything was found. `--one I` runs file i alone and shows its runs.
 
 With `--worst` it runs the program on the files that cost it most, as far as they are known, with a minute and 4 GiB, prints the
