@@ -5,7 +5,7 @@ use Rattle.run_replayer.proofs.replaying.replay_steps.Goals as goal
 pub returns-then-has : goal.returns-then-has
 returns-then-has c = all_open _ _ _ _ _ _ _ _ c.loop-step.invariant c.eip-at.result (omega arith) c.eip-at.ensures (c.has.ensures.0 c.if-has.true)
 
-pub returns-else-has : goal.returns-else-has
-returns-else-has c =
+pub returns : goal.returns
+returns c =
     all_inside _ _ _ _ _ _ _ _ c.loop-step.invariant c.eip-at.result (omega arith) c.eip-at.ensures
     (lacks_same _ c.eip-at.result c.eip-at.result c.has.result refl c.has.ensures.1 c.if-has.false)
