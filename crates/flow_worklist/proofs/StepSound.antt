@@ -276,7 +276,8 @@ analysis_sound d l image stubs k loads = record {
 }
 
 pub code-is_fetched : {D : Type 0} (d : Values D) (l : IsLawful d) (image : Image) (stubs : StatedStubs) (k : ℕ) (s : Known D) (p : Places) (m : MachineState) (i : Instr) (n : ℕ)
-    → Describes d image s p m → (post d image stubs k m.eip s).causes ≡ [] → site_at image m.eip ≡ Code → decoded (fetched m) ≡ Some (i, n) → IsFetchedAs d image s m i n
-code-is_fetched d l image stubs k s p m i n h none at found =
+    → IsLoaded image → IsWellState d s → Describes d image s p m → (post d image stubs k m.eip s).causes ≡ [] → site_at image m.eip ≡ Code → decoded (fetched m) ≡ Some (i, n)
+    → IsFetchedAs d image s m i n
+code-is_fetched d l image stubs k s p m i n loads well h none at decodes =
     let Held : List Cause → Type 0 = λ causes. (c : Cause) → Contains causes c → ⊥ in
-    fetched_as d l image stubs k s p m h (subst Held (sym none) (λ c held. Contains-none c held)) i n at found
+    fetched_as d l image stubs loads k s p m m well h (subst Held (sym none) (λ c held. Contains-none c held)) i n at decodes

@@ -42,11 +42,11 @@ module _ {D : Type 0} (d : Values D) where
     pub decodes : decoded (known_run d image s m.eip) ≡ Some (i, n)
     pub bytes : take n (fetched m) ≡ take n (known_run d image s m.eip)
 
-  -- where the expansion of a row has no cause, each machine state that the row describes fetches what the row knows, at code
+  -- where the expansion of a well formed row has no cause, each machine state that the row describes fetches what the row knows, at code
   abbrev pub CodeIsFetched : Type 0
   CodeIsFetched =
       (image : Image) (stubs : StatedStubs) (k : ℕ) (s : Known D) (p : Places) (m : MachineState) (i : Instr) (n : ℕ) →
-      Describes d image s p m → (post d image stubs k m.eip s).causes ≡ [] → site_at image m.eip ≡ Code → decoded (fetched m) ≡ Some (i, n) → IsFetchedAs image s m i n
+      IsLoaded image → IsWellState d s → Describes d image s p m → (post d image stubs k m.eip s).causes ≡ [] → site_at image m.eip ≡ Code → decoded (fetched m) ≡ Some (i, n) → IsFetchedAs image s m i n
 
   -- one step: the analysis of every image is sound for the machine that runs it
   abbrev pub StepsAreSound : Type 0

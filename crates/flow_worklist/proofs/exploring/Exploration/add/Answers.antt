@@ -6,7 +6,7 @@ use Rattle.domain_laws.specs.Made.{values_of}
 use Rattle.flow_log.specs.Log.{Row}
 use Rattle.abstract_state.specs.State.{Known}
 use Rattle.flow_worklist.specs.declared.visits.Visits.{Visits}
-use Rattle.flow_worklist.specs.Exploring.{IsKept, IsIndexedBut}
+use Rattle.flow_worklist.specs.Exploring.{IsKept, IsIndexedBut, IsOf}
 use Rattle.flow_worklist.proofs.exploring.Exploration.add.Goals as goal
 
 pub add_row-requires-clause-others : goal.add_row-requires-clause-others
@@ -21,3 +21,9 @@ add_row-requires-clause-others g c =
           subst P (sym (c.take-visits.ensures.others q apart)) (subst Q (sym (ap (λ v. v.items) c.take-visits.ensures.rows)) (c.requires.kept q));
     } in
     λ κs h. made
+
+pub add_row-requires-clause-taken : goal.add_row-requires-clause-taken
+add_row-requires-clause-taken g c κs within =
+    let d = values_of g.D.Domain g.D.PartialEq.eq in
+    let Q : List (Row (Known g.row.D.Denot)) → Type 0 = λ rows. IsOf d c.take-visits.result c.args.edge.to rows in
+    subst Q (sym (ap (λ v. v.items) c.take-visits.ensures.rows)) c.take-visits.ensures.taken
