@@ -1,33 +1,23 @@
-use crate::*;
-use bounded_values::Bounded;
+mod checked;
+mod kept;
+mod plain;
+mod refused;
+
 use demo_images::form_e;
 use image_loader::{Image, load};
-use std::alloc::{AllocError, Global};
+use std::alloc::Global;
 use std::test::Fail;
 use stub_file::Stubs;
-use text_fields::TextFault;
 
-fn image(alloc: Global, code: &[u8], rights: u32) -> Result<Image, Fail> {
-    let bytes = form_e(alloc, code, rights)?;
-    let loaded = load(alloc, &bytes)
-        .ok()
-        .ok_or("an image that is not refused")?;
+// An image of these bytes at 08048000, in one segment with these flags.
+fn image_of(alloc: Global, code: &[u8], flags: u32) -> Result<Image, Fail> {
+    let bytes = form_e(alloc, code, flags)?;
+    let loaded = load(alloc, &bytes).ok().ok_or("no image")?;
     Ok(loaded.bind(alloc, &Stubs::none(alloc))?)
 }
 
-#[test]
-fn smoke(rt: HostRuntime) -> Result<(), Fail> {
-    let alloc = rt.alloc();
-    let image = image(alloc, b"\xEB\xFE", 5)?;
-    let text =
-        b"jakstab-table 1\nk 32\nrow 08048000\nregs a a a a e:stack:00000000 a a a\nflags ??????0\nend 1\n";
-    let table = match read_table(alloc, &image, text) {
-        Ok(table) => table,
-        Err(_) => return Err("refused".into()),
-    };
-    let printed = print_table(alloc, &table)?;
-    assert_eq!(rt; printed.as_slice(), text.as_slice());
-    let answer = check_table(&rt, alloc, &image, &Stubs::none(alloc), &table)?;
-    assert_eq!(rt; answer, TableAnswer::Yes { edges: 1 });
-    Ok(())
+// A jump to itself, in an image of sixteen bytes from 08048000 on that may be written.
+fn image(alloc: Global) -> Result<Image, Fail> {
+    let code = b"\xEB\xFE\x90\x90\x90\x90\x90\x90\x90\x90\x90\x90\x90\x90\x90\x90";
+    image_of(alloc, code, 7)
 }
