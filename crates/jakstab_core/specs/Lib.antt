@@ -5,3 +5,4 @@ pub mod Summary
 pub mod Tasks
 pub mod Says
 pub mod Due
+pub mod Tables

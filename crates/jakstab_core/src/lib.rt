@@ -29,9 +29,13 @@ mod sample_tests;
 mod status;
 mod summary;
 #[cfg(test)]
+mod table_tests;
+mod tables;
+#[cfg(test)]
 mod tests;
 mod top;
 mod work;
 
 pub use status::{Input, Status};
+pub use tables::table_of;
 pub use top::jakstab;
