@@ -1,5 +1,5 @@
 -- States as plain lists, and which of these are states of an image.
-use Rattle.std.specs.Prelude.{◌≡◌, ℕ, ◌^◌, ◌-ℤ◌, Bool, true, ◌&&◌, nat_lt, List, [], ◌∷◌, ℤ, pos, Option, None, Some, unsigned_abs, option_and_then, if◌then◌else◌, All}
+use Rattle.std.specs.Prelude.{◌≡◌, ◌^◌, Bool, true, ◌&&◌, nat_lt, List, [], ◌∷◌, ℤ, pos, ◌+ℤ◌, int_le, Option, None, Some, unsigned_abs, option_and_then, if◌then◌else◌}
 use Rattle.std.specs.List.{list_all}
 use Rattle.std.specs.Option.{option_map_or}
 use Rattle.bit_words.specs.Width.{bytes_of}
@@ -7,14 +7,15 @@ use Rattle.bit_words.specs.declared.width.Width.TheVariants.{B32}
 use Rattle.memory_map.specs.Image.{Image}
 use Rattle.memory_map.specs.Range.{maps_all}
 use Rattle.memory_map.specs.declared.registers.Regs.{Regs}
-use Rattle.address_regions.specs.declared.region.Region.TheVariants.{Stack}
+use Rattle.address_regions.specs.declared.region.Region.{Region}
+use Rattle.address_regions.specs.declared.region.Region.TheVariants.{Stack, Fs, Gs, Block}
 use Rattle.domain_laws.specs.Laws.{Values}
 use Rattle.partitioned_memory.specs.declared.area.Area.{Area}
 use Rattle.partitioned_memory.specs.declared.area.Area.TheVariants as areas
 use Rattle.partitioned_memory.specs.declared.fact.Fact.{Fact}
 use Rattle.partitioned_memory.specs.declared.fact.Dirty.{Dirty}
 use Rattle.partitioned_memory.specs.Areas.{interval_at}
-use Rattle.partitioned_memory.specs.Building.{are_well, fits_width, is_counted_value, lies_inside}
+use Rattle.partitioned_memory.specs.Building.{are_well, lies_inside, may_hold}
 use Rattle.partitioned_memory.specs.Held.{PartsHeld}
 use Rattle.abstract_state.specs.declared.truth.Truth.{Truth}
 use Rattle.abstract_state.specs.declared.flags.Truths.{Truths}
@@ -62,7 +63,8 @@ parts_of s = record { facts = s.facts; dirty = s.dirty; blocks = s.blocks }
 
 -- bytes from an offset of an area on are bytes of the segments where the area is the image
 abbrev pub are_image_bytes : Image → Area → ℤ → ℤ → Bool
-are_image_bytes image areas.Image low size = maps_all image.segments (unsigned_abs low) (unsigned_abs size)
+are_image_bytes image areas.Image low size =
+    int_le (pos 0) low && (int_le (low +ℤ size) (pos (2 ^ 32)) && maps_all image.segments (unsigned_abs low) (unsigned_abs size))
 are_image_bytes image (areas.In r) low size = true
 
 abbrev pub is_fact_of : {D : Type 0} → Image → Fact D → Bool
@@ -76,21 +78,31 @@ abbrev pub is_well_note : Note → Bool
 is_well_note (Register r c) = nat_lt r 8
 is_well_note (Word o c) = lies_inside (interval_at (areas.In Stack) o (pos 4))
 
+abbrev pub is_note : Option Note → Bool
+is_note note = option_map_or is_well_note note true
+
+-- a block's size is a word
+abbrev pub is_small : Region → Bool
+is_small (Block site size zeroed) = nat_lt size (2 ^ 32)
+is_small Stack = true
+is_small Fs = true
+is_small Gs = true
+
 module _ {D : Type 0} (d : Values D) (image : Image) where
-  -- a state may be built of the lists: its parts may, image facts and image dirty ranges are of bytes of the image, block regions that
-  -- registers name have counts, and the note is one
+  -- a state may be built of the lists but for the note: its parts may, image facts and image dirty ranges are of bytes of the image, a number
+  -- in a register is a word, and each block region that a register names is counted
   unfoldable pub is_state : StateData D → Bool
   is_state s =
       are_well d (parts_of s)
       && (list_all (is_fact_of image) s.facts
       && (list_all (is_dirty_of image) s.dirty
-      && (list_all (is_counted_value d s.blocks) s.regs && option_map_or is_well_note s.note true)))
+      && (list_all (may_hold d s.blocks B32) s.regs && list_all (λ c. is_small c.region) s.blocks)))
 
   -- the state of the lists, where they are one with eight registers and seven flags
   unfoldable pub built : StateData D → Option (Known D)
   built s =
       option_and_then (λ regs. option_and_then (λ flags.
-      if is_state s then Some (record { regs = regs; flags = flags; note = s.note; parts = parts_of s }) else None)
+      if is_state s && is_note s.note then Some (record { regs = regs; flags = flags; note = s.note; parts = parts_of s }) else None)
       (truths_of s.flags)) (registers_of s.regs)
 
 -- a state is not built exactly where the lists are none; want of memory may come at any time

@@ -1,10 +1,11 @@
-ghost use Rattle.std.specs.Prelude.{◌≡◌, Some, MatchResult, pos, true};
-ghost use Rattle.std.specs.Option.{option_map_or};
-ghost use Rattle.bit_words.specs.Width.{bytes_of};
+ghost use Rattle.std.specs.Prelude.{◌≡◌, IsTrue, Some, MatchResult, pos, true};
+ghost use Rattle.std.specs.List.{list_all};
+ghost use Rattle.std.specs.Option.{ForSome};
 ghost use Rattle.domain_laws.specs.Made.{values_of};
 ghost use Rattle.partitioned_memory.specs.Areas.{interval_at};
-ghost use Rattle.partitioned_memory.specs.Building.{lies_inside};
-ghost use Rattle.abstract_state.specs.Building.{IsBuildFault, are_image_bytes, built, is_dirty_of, is_fact_of, is_state, is_well_note, registers_of, truths_of};
+ghost use Rattle.partitioned_memory.specs.Building.{lies_inside, may_hold};
+ghost use Rattle.abstract_state.specs.Notes.{IsWellNote};
+ghost use Rattle.abstract_state.specs.Building.{BuiltStatesArePlain, IsBuildFault, PlainStatesAreBuilt, are_image_bytes, built, is_dirty_of, is_fact_of, is_note, is_small, is_state, is_well_note, registers_of, truths_of};
 
 use crate::flags::Truths;
 use crate::note::Note;
@@ -12,11 +13,11 @@ use crate::plain::StateData;
 use crate::state::State;
 use crate::truth::Truth;
 use address_regions::Region;
-use bit_words::NoMemory;
+use bit_words::{NoMemory, Width};
 use domain_laws::Domain;
 use image_loader::Image;
 use memory_map::Regs;
-use partitioned_memory::{Area, Dirty, Fact, Parts, are_well, is_counted_value};
+use partitioned_memory::{Area, Counted, Dirty, Fact, Parts, are_well, may_hold};
 use std::alloc::Global;
 
 /// Why a state is not built.
@@ -74,28 +75,29 @@ fn truths_of(truths: &[Truth]) -> Option<Truths>
 
 // Whether bytes of the image are bytes of its segments; those of other areas are none of them.
 fn are_image_bytes(image: &Image, area: Area, low: i64, size: i64) -> bool
-    requires { lies_inside (interval_at area low size) ≡ true }
     ensures { result ≡ are_image_bytes image.now area low size }
 {
     match area {
-        Area::Image => image
-            .segments()
-            .maps_all(low.unsigned_abs(), size.unsigned_abs()),
+        Area::Image => {
+            0 <= low
+                && (i128::from(low) + i128::from(size) <= 0x1_0000_0000
+                    && image
+                        .segments()
+                        .maps_all(low.unsigned_abs(), size.unsigned_abs()))
+        }
         Area::In(_) => true,
     }
 }
 
-/// Whether a sound fact is of bytes of the image, or of none.
+/// Whether a fact is of bytes of the image's segments, or of another area.
 pub fn is_fact_of<D: Domain>(image: &Image, f: &Fact<D>) -> bool
-    requires { lies_inside (interval_at f.now.area f.now.low (pos (bytes_of f.now.w))) ≡ true }
     ensures { result ≡ is_fact_of image.now f.now }
 {
     are_image_bytes(image, f.area, f.low, i64::from(f.w.bytes()))
 }
 
-/// Whether a sound dirty range is of bytes of the image, or of none.
+/// Whether a dirty range is of bytes of the image's segments, or of another area.
 pub fn is_dirty_of(image: &Image, r: Dirty) -> bool
-    requires { lies_inside (interval_at r.area r.low r.size) ≡ true }
     ensures { result ≡ is_dirty_of image.now r }
 {
     are_image_bytes(image, r.area, r.low, r.size)
@@ -111,7 +113,8 @@ fn is_stack_word(o: i64) -> bool
 impl Note {
     /// Whether a noted register is one of the eight, and a noted word lies in the stack's extent.
     pub fn is_well(self) -> bool
-        ensures { result ≡ is_well_note self }
+        ensures value { result ≡ is_well_note self }
+        ensures well { IsTrue result → IsWellNote self }
     {
         match self {
             Note::Register(r, _) => r < 8,
@@ -121,7 +124,8 @@ impl Note {
 }
 
 fn is_note(note: Option<Note>) -> bool
-    ensures { result ≡ option_map_or is_well_note note true }
+    ensures value { result ≡ is_note note }
+    ensures well { IsTrue result → ForSome note IsWellNote }
 {
     match note {
         Some(note) => note.is_well(),
@@ -129,7 +133,40 @@ fn is_note(note: Option<Note>) -> bool
     }
 }
 
-// Whether a state may be built of the lists.
+fn is_small(region: Region) -> bool
+    ensures { result ≡ is_small region }
+{
+    match region {
+        Region::Stack | Region::Fs | Region::Gs => true,
+        Region::Block { size, .. } => u64::from(size) < 0x1_0000_0000,
+    }
+}
+
+fn are_facts_of<D: Domain>(image: &Image, facts: &[Fact<D>]) -> bool
+    ensures { result ≡ list_all (is_fact_of image.now) facts.now }
+{
+    facts.iter().all(|f| is_fact_of(image, f))
+}
+
+fn are_dirty_of(image: &Image, dirty: &[Dirty]) -> bool
+    ensures { result ≡ list_all (is_dirty_of image.now) dirty.now }
+{
+    dirty.iter().all(|r| is_dirty_of(image, *r))
+}
+
+fn are_held<D: Domain>(blocks: &[Counted], regs: &[D]) -> bool
+    ensures { result ≡ list_all (may_hold (values_of D.Domain.own D.eq) blocks.now Width.B32) regs.now }
+{
+    regs.iter().all(|v| may_hold(blocks, Width::B32, *v))
+}
+
+fn are_small(blocks: &[Counted]) -> bool
+    ensures { result ≡ list_all (λ c. is_small c.region) blocks.now }
+{
+    blocks.iter().all(|c| is_small(c.region))
+}
+
+// Whether a state may be built of the lists, but for the note.
 #[tactic(auto, unfolding(crate::specs::Building::is_state))]
 fn is_state<D: Domain>(image: &Image, plain: &StateData<D>) -> bool
     ensures { result ≡ is_state (values_of D.Domain.own D.eq) image.now plain.now }
@@ -138,14 +175,9 @@ fn is_state<D: Domain>(image: &Image, plain: &StateData<D>) -> bool
     let dirty = plain.dirty.as_slice();
     let blocks = plain.blocks.as_slice();
     are_well(facts, dirty, blocks)
-        && (facts.iter().all(|f| is_fact_of(image, f))
-            && (dirty.iter().all(|r| is_dirty_of(image, *r))
-                && (plain
-                    .regs
-                    .as_slice()
-                    .iter()
-                    .all(|v| is_counted_value(blocks, *v))
-                    && is_note(plain.note))))
+        && (are_facts_of(image, facts)
+            && (are_dirty_of(image, dirty)
+                && (are_held(blocks, plain.regs.as_slice()) && are_small(blocks))))
 }
 
 impl<D: Domain> State<D> {
@@ -167,6 +199,9 @@ impl<D: Domain> State<D> {
         if !is_state(image, plain) {
             return Err(BuildFault::NotWell);
         }
+        if !is_note(plain.note) {
+            return Err(BuildFault::NotWell);
+        }
         let parts = Parts::build(
             alloc,
             plain.facts.as_slice(),
@@ -181,3 +216,10 @@ impl<D: Domain> State<D> {
         })
     }
 }
+
+/// A law: the plain lists of a state are built to that state again for each image that has the bytes of its image facts and of its image
+/// dirty ranges, and what is built for an image has its lists and these bytes.
+pub fn plain_states_are_built<D: Domain>()
+    ensures again { PlainStatesAreBuilt (values_of D.Domain.own D.eq) }
+    ensures plain { BuiltStatesArePlain (values_of D.Domain.own D.eq) }
+{}

@@ -49,6 +49,10 @@ module _ {D : Type 0} (d : Values D) where
   abbrev pub is_counted_value : List Counted → D → Bool
   is_counted_value blocks v = has_count blocks (named (d.reach v))
 
+  -- a value may be kept at a width: a number fits it, and the block region that the value names has a count
+  abbrev pub may_hold : List Counted → Width → D → Bool
+  may_hold blocks w v = fits_width w v && is_counted_value blocks v
+
   -- a fact by itself: it lies in its area, its value has a rank above 0, and a number fits its width
   abbrev pub is_sound_fact : Fact D → Bool
   is_sound_fact f = lies_inside (interval_of_fact f) && (not (d.rank f.value == 0) && fits_width f.w f.value)

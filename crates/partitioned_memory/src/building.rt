@@ -3,7 +3,7 @@ ghost use Rattle.std.specs.List.{list_all};
 ghost use Rattle.domain_laws.specs.Made.{values_of};
 ghost use Rattle.domain_laws.specs.Reached.{named};
 ghost use Rattle.partitioned_memory.specs.Areas.{block_in};
-ghost use Rattle.partitioned_memory.specs.Building.{are_sound_facts, are_well, ascend, fits_width, has_count, is_block, is_counted_dirty, is_counted_fact, is_counted_value, is_sound_dirty, is_sound_fact, lies_inside};
+ghost use Rattle.partitioned_memory.specs.Building.{are_sound_facts, are_well, ascend, fits_width, has_count, is_block, is_counted_dirty, is_counted_fact, is_counted_value, is_sound_dirty, is_sound_fact, lies_inside, may_hold};
 ghost use Rattle.partitioned_memory.specs.Held.{count_before, dirty_before, fact_before};
 
 use crate::area::{Area, Interval};
@@ -68,11 +68,18 @@ fn fits_width<D: Domain>(w: Width, v: D) -> bool
     }
 }
 
-/// Whether the block region that a value names, where it names one, has a count.
-pub fn is_counted_value<D: Domain>(blocks: &[Counted], v: D) -> bool
+// Whether the block region that a value names, where it names one, has a count.
+fn is_counted_value<D: Domain>(blocks: &[Counted], v: D) -> bool
     ensures { result ≡ is_counted_value (values_of D.Domain.own D.eq) blocks.now v }
 {
     has_count(blocks, named(v))
+}
+
+/// Whether a value may be kept at a width: a number fits it, and the block region that the value names, where it names one, has a count.
+pub fn may_hold<D: Domain>(blocks: &[Counted], w: Width, v: D) -> bool
+    ensures { result ≡ may_hold (values_of D.Domain.own D.eq) blocks.now w v }
+{
+    fits_width(w, v) && is_counted_value(blocks, v)
 }
 
 impl<D: Domain> Fact<D> {

@@ -19,7 +19,7 @@ mod stretch;
 mod stretches;
 
 pub use area::Area;
-pub use building::{are_well, is_counted_value};
+pub use building::{are_well, may_hold};
 pub use fact::{Counted, Dirty, Fact, Held, Spot};
 pub use laws::{calls_are_right, spread_is_apart};
 pub use parts::Parts;

@@ -6,6 +6,7 @@
 
 mod checking;
 mod fields;
+mod laws;
 mod print;
 mod reader;
 mod row_index;
@@ -15,6 +16,7 @@ mod table;
 mod tests;
 
 pub use checking::{TableAnswer, check_table};
+pub use laws::texts_tell_tables;
 pub use print::print_table;
 pub use reader::read_table;
 pub use table::Table;
