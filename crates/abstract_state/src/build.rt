@@ -5,6 +5,7 @@ ghost use Rattle.domain_laws.specs.Made.{values_of};
 ghost use Rattle.partitioned_memory.specs.Areas.{interval_at};
 ghost use Rattle.partitioned_memory.specs.Building.{lies_inside, may_hold};
 ghost use Rattle.abstract_state.specs.Notes.{IsWellNote};
+ghost use Rattle.abstract_state.specs.State.{IsWellState};
 ghost use Rattle.abstract_state.specs.Building.{BuiltStatesArePlain, IsBuildFault, PlainStatesAreBuilt, are_image_bytes, built, is_dirty_of, is_fact_of, is_note, is_small, is_state, is_well_note, registers_of, truths_of};
 
 use crate::flags::Truths;
@@ -214,6 +215,15 @@ impl<D: Domain> State<D> {
             note: plain.note,
             parts,
         })
+    }
+}
+
+impl<D: Domain> State<D> {
+    /// What is always so of a state. It costs nothing.
+    pub fn well(&self)
+        ensures { IsWellState (values_of D.Domain.own D.eq) self.now }
+    {
+        let _ = &self.parts;
     }
 }
 

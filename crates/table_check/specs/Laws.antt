@@ -54,3 +54,12 @@ pub record IsTableOf (image : Image) (t : Table Bounded) : Type 0 where
 -- what a text tells is a table of the image, whose text it is
 abbrev pub TextsTellTables : Type 0
 TextsTellTables = (image : Image) (text : List ℕ) (t : Table Bounded) → length text < 2 ^ 64 → table_read image text ≡ Ok t → IsTableOf image t × (table_text t ≡ text)
+
+-- ---- closed tables of well states
+
+module _ {D : Type 0} (d : Values D) where
+  -- a table is closed of which no row fails, and no run leaves a closed table whose states are well before it first stands at a marked location
+  abbrev pub ClosedTablesAreFollowed : Type 0
+  ClosedTablesAreFollowed =
+      (image : Image) (stubs : StatedStubs) (t : Table D) → IsLoaded image → All (λ row. IsWellState d row.1) t.rows → IsYes (table_answer d image stubs t) →
+      IsClosedTable d image stubs t × RunsAreFollowedBy d image stubs t

@@ -1,8 +1,12 @@
-ghost use Rattle.std.specs.Prelude.{◌≡◌, ◌<◌, ◌≤◌, IfOk, length, map};
+ghost use Rattle.std.specs.Prelude.{◌≡◌, ◌==◌, ◌&&◌, ◌<◌, ◌≤◌, IfOk, false, is_empty, length, map};
+ghost use Rattle.std.specs.List.{list_all, list_any};
 ghost use Rattle.domain_laws.specs.Made.{values_of};
-ghost use Rattle.flow_worklist.specs.Analysis.{analysis_of};
-ghost use Rattle.table_check.specs.Checking.{IsFindingOf, IsIndexOf};
-ghost use Rattle.table_check.specs.Closed.{IsYes, is_marked, starts, table_answer};
+ghost use Rattle.abstract_state.specs.State.{covers_state, start_state};
+ghost use Rattle.flow_log.specs.Ordered.{ordered_set};
+ghost use Rattle.flow_log.specs.Orders.{edge_cmp};
+ghost use Rattle.flow_worklist.specs.Analysis.{edge_by};
+ghost use Rattle.table_check.specs.Checking.{AreFindings, IsExpandedOf, IsFindingOf, IsIndexOf};
+ghost use Rattle.table_check.specs.Closed.{IsYes, is_marked, table_answer};
 ghost use Rattle.table_check.specs.Laws.{RunsAreFollowedBy};
 
 use crate::Table;
@@ -49,7 +53,7 @@ enum Finding {
     Leads(Vec<Edge>),
 }
 
-// What a row is checked with.
+// What a row is checked with: the state at the start, and where rows are.
 #[derive(Drop)]
 struct Check<'a, D: Domain> {
     image: &'a Image,
@@ -57,10 +61,14 @@ struct Check<'a, D: Domain> {
     table: &'a Table<D>,
     start: State<D>,
     index: RowIndex,
+    ghost started: { start ≡ start_state (values_of D.Domain D.eq) image.now },
+    ghost indexed: { IsIndexOf index table.now.rows },
 }
 
 // Whether a row is at the entry and covers the start.
-fn starts<D: Domain>(image: &Image, start: &State<D>, row: &(u32, State<D>)) -> bool {
+fn starts<D: Domain>(image: &Image, start: &State<D>, row: &(u32, State<D>)) -> bool
+    ensures { result ≡ (row.now.0 == image.now.entry && covers_state (values_of D.Domain.own D.eq) row.now.1 start.now) }
+{
     row.0 == image.entry() && row.1.covers(start)
 }
 
@@ -71,7 +79,9 @@ fn is_marked(marked: &[u32], at: u32) -> bool
 }
 
 // The edges of a row's next pairs.
-fn edges_of<D: Domain>(alloc: Global, post: &Post<D>) -> Result<Vec<Edge>, NoMemory> {
+fn edges_of<D: Domain>(alloc: Global, post: &Post<D>) -> Result<Vec<Edge>, NoMemory>
+    ensures { IfOk result (λ edges. edges.items ≡ map (λ pair. edge_by post.now.at post.now.label pair.0) post.now.expansion.next) }
+{
     let mut edges = Vec::new(alloc);
     for pair in post.expansion.next() {
         edges.push(Edge {
@@ -83,13 +93,34 @@ fn edges_of<D: Domain>(alloc: Global, post: &Post<D>) -> Result<Vec<Edge>, NoMem
     Ok(edges)
 }
 
+// Whether each next pair is covered by a row at its location.
+fn lead_to_rows<D: Domain>(
+    rows: &[(u32, State<D>)],
+    index: &RowIndex,
+    next: &[(u32, State<D>)],
+) -> bool
+    requires { IsIndexOf index.now rows.now }
+    ensures { result ≡ list_all (λ pair. list_any (λ row. row.0 == pair.0 && covers_state (values_of D.Domain.own D.eq) row.1 pair.1) rows.now) next.now }
+{
+    for pair in next {
+        if !index.covers(rows, pair.0, &pair.1) {
+            return false;
+        }
+    }
+    true
+}
+
 impl<'a, D: Domain> Check<'a, D> {
     fn of(
         alloc: Global,
         image: &'a Image,
         stubs: &'a Stubs,
         table: &'a Table<D>,
-    ) -> Result<Check<'a, D>, NoMemory> {
+    ) -> Result<Check<'a, D>, NoMemory>
+        ensures image { IfOk result (λ check. check.image.now ≡ image.now) }
+        ensures stubs { IfOk result (λ check. check.stubs.now ≡ stubs.now) }
+        ensures table { IfOk result (λ check. check.table.now ≡ table.now) }
+    {
         Ok(Check {
             image,
             stubs,
@@ -99,30 +130,25 @@ impl<'a, D: Domain> Check<'a, D> {
         })
     }
 
-    // Whether each next pair is covered by a row at its location.
-    fn leads_to_rows(&self, next: &[(u32, State<D>)]) -> bool {
-        let rows = self.table.rows.as_slice();
-        next.iter()
-            .all(|pair| self.index.covers(rows, pair.0, &pair.1))
-    }
-
     // What is found of a row at a location that is not marked.
-    fn expanded(&self, alloc: Global, row: &(u32, State<D>)) -> Result<Finding, NoMemory> {
-        let (at, state) = (row.0, &row.1);
-        let reading = Reading::of(self.image.fetch(at));
+    fn expanded(&self, alloc: Global, row: &(u32, State<D>)) -> Result<Finding, NoMemory>
+        ensures { IfOk result (IsExpandedOf (values_of D.Domain.own D.eq) self.now.image.now self.now.stubs.now self.now.table.now row.now) }
+    {
+        let reading = Reading::of(self.image.fetch(row.0));
         let post = expanded(
             alloc,
             self.image,
             self.stubs,
             self.table.k,
-            at,
-            state,
+            row.0,
+            &row.1,
             &reading,
         )?;
         if !post.expansion.causes().is_empty() {
             return Ok(Finding::Broken(CAUSE));
         }
-        if !self.leads_to_rows(post.expansion.next()) {
+        let rows = self.table.rows.as_slice();
+        if !lead_to_rows(rows, &self.index, post.expansion.next()) {
             return Ok(Finding::Broken(NEXT));
         }
         Ok(Finding::Leads(edges_of(alloc, &post)?))
@@ -134,7 +160,9 @@ impl<'a, D: Domain> Check<'a, D> {
         alloc: Global,
         number: usize,
         row: &(u32, State<D>),
-    ) -> Result<Finding, NoMemory> {
+    ) -> Result<Finding, NoMemory>
+        ensures { IfOk result (IsFindingOf (values_of D.Domain.own D.eq) self.now.image.now self.now.stubs.now self.now.table.now number row.now) }
+    {
         if number == 0 && !starts(self.image, &self.start, row) {
             return Ok(Finding::Broken(START));
         }
@@ -150,7 +178,9 @@ fn findings<R: Threads + Sync, D: Domain>(
     rt: &R,
     alloc: Global,
     check: &Check<D>,
-) -> Result<Vec<Result<Finding, NoMemory>>, NoMemory> {
+) -> Result<Vec<Result<Finding, NoMemory>>, NoMemory>
+    ensures { IfOk result (λ found. AreFindings (values_of D.Domain.own D.eq) check.now.image.now check.now.stubs.now check.now.table.now found.items) }
+{
     let rows = check.table.rows.as_slice();
     let found = (0..rows.len())
         .into_par_iter()
@@ -164,15 +194,25 @@ fn findings<R: Threads + Sync, D: Domain>(
 }
 
 // How many different edges there are.
-fn count(edges: Vec<Edge>) -> u64 {
+fn count(edges: Vec<Edge>) -> u64
+    ensures { result ≡ length (ordered_set edge_cmp edges.items) }
+{
     sorted_edges(edges).len() as u64
 }
 
 // The answer by what was found of each row.
-fn answer_of(
+fn answer_of<D: Domain>(
     alloc: Global,
+    image: &Image,
+    stubs: &Stubs,
+    t: &Table<D>,
     found: Vec<Result<Finding, NoMemory>>,
-) -> Result<TableAnswer, NoMemory> {
+) -> Result<TableAnswer, NoMemory>
+    requires some { is_empty t.now.rows ≡ false }
+    requires found { AreFindings (values_of D.Domain.own D.eq) image.now stubs.now t.now found.items }
+    ensures { IfOk result (λ answer. answer ≡ table_answer (values_of D.Domain.own D.eq) image.now stubs.now t.now) }
+{
+    let _ = (image, stubs, t);
     let mut edges = Vec::new(alloc);
     let mut row = 0;
     for finding in found {
@@ -209,5 +249,6 @@ pub fn check_table<R: Threads + Sync, D: Domain>(
         });
     }
     let check = Check::of(alloc, image, stubs, t)?;
-    answer_of(alloc, findings(rt, alloc, &check)?)
+    let found = findings(rt, alloc, &check)?;
+    answer_of(alloc, image, stubs, t, found)
 }

@@ -16,7 +16,7 @@ mod table;
 mod tests;
 
 pub use checking::{TableAnswer, check_table};
-pub use laws::texts_tell_tables;
+pub use laws::{closed_tables_are_followed, texts_tell_tables};
 pub use print::print_table;
 pub use reader::read_table;
 pub use table::Table;

@@ -1,8 +1,9 @@
-ghost use Rattle.std.specs.Prelude.{◌≡◌, IfOk};
+ghost use Rattle.std.specs.Prelude.{◌≡◌, ◌==◌, ◌&&◌, ◌++◌, ◌∷◌, [], All, IfOk, OnOk, false, nat_eq, take};
+ghost use Rattle.std.specs.HashMap.{get};
+ghost use Rattle.abstract_state.specs.State.{IsWellState, covers_state};
 ghost use Rattle.std.specs.List.{list_any};
 ghost use Rattle.domain_laws.specs.Made.{values_of};
 ghost use Rattle.table_check.specs.Checking.{IsIndexOf, covers_at};
-ghost use Rattle.table_check.specs.Closed.{is_covered};
 
 use abstract_state::State;
 use bit_words::NoMemory;
@@ -29,12 +30,14 @@ fn covers_at<D: Domain>(rows: &[(u32, State<D>)], s: &State<D>, number: usize) -
 impl RowIndex {
     /// The index of these rows.
     pub fn of<D: Domain>(alloc: Global, rows: &[(u32, State<D>)]) -> Result<RowIndex, NoMemory>
-        ensures { IfOk result (λ index. IsIndexOf index rows.now) }
+        ensures index { IfOk result (λ index. IsIndexOf index rows.now) }
+        ensures well { IfOk result (λ _. All (λ row. IsWellState (values_of D.Domain.own D.eq) row.1) rows.now) }
     {
         let mut index = RowIndex {
             numbers: HashMap::new(alloc),
         };
         for (number, row) in rows.iter().enumerate() {
+            row.1.well();
             index.add(alloc, row.0, number)?;
         }
         Ok(index)
