@@ -18,7 +18,7 @@ use Rattle.partitioned_memory.specs.Areas.{interval_at}
 use Rattle.partitioned_memory.specs.Building.{are_well, fits_width, is_counted_value, lies_inside, may_hold}
 use Rattle.partitioned_memory.specs.Lists.{Every}
 use Rattle.partitioned_memory.specs.Well.{IsWell, MayHold}
-use Rattle.partitioned_memory.proofs.Building.{Every-all, all-Every, are-well, count-of, fits-of, fits-width, has-count, inside-of, lies-inside, well-of}
+use Rattle.partitioned_memory.proofs.BuiltParts.{Every-all, all-Every, are-well, count-of, fits-of, fits-width, has-count, inside-of, lies-inside, well-of}
 use Rattle.abstract_state.specs.declared.truth.Truth.{Truth}
 use Rattle.abstract_state.specs.declared.flags.Truths.{Truths}
 use Rattle.abstract_state.specs.declared.note.Note.{Note}

@@ -566,11 +566,11 @@ unfolding state_step
 state_told stage r t line [] here part short parts h = cc
 state_told stage r t line (word ∷ fs) here part short parts h =
     let P : Stage → Type 0 = λ s.
-        (if bytes_eq word (codes "note") && nat_lt (part_of s) 1 then or_fault FIELD (note_fields fs) (note_step r)
-        else if bytes_eq word (codes "fact") && nat_le (part_of s) 2 then or_fault FIELD (fact_fields fs) (fact_step r)
-        else if bytes_eq word (codes "dirty") && nat_le (part_of s) 3 then or_fault FIELD (dirty_fields fs) (dirty_step r)
-        else if bytes_eq word (codes "block") then or_fault FIELD (block_fields fs) (block_step r)
-        else after_state (closed r) word fs) ≡ Ok t in
+    (if bytes_eq word (codes "note") && nat_lt (part_of s) 1 then or_fault FIELD (note_fields fs) (note_step r)
+    else if bytes_eq word (codes "fact") && nat_le (part_of s) 2 then or_fault FIELD (fact_fields fs) (fact_step r)
+    else if bytes_eq word (codes "dirty") && nat_le (part_of s) 3 then or_fault FIELD (dirty_fields fs) (dirty_step r)
+    else if bytes_eq word (codes "block") then or_fault FIELD (block_fields fs) (block_step r)
+    else after_state (closed r) word fs) ≡ Ok t in
     state_by stage r t line part short word fs (bytes_eq word (codes "note")) (bytes_eq word (codes "fact")) (bytes_eq word (codes "dirty")) (bytes_eq word (codes "block"))
     (nat_lt (part_of stage) 1) (nat_le (part_of stage) 2) (nat_le (part_of stage) 3) parts refl refl refl refl refl refl refl (subst P here h)
 

@@ -155,12 +155,7 @@ impl<'a, D: Domain> Check<'a, D> {
     }
 
     // What is found of the row of a number.
-    fn row(
-        &self,
-        alloc: Global,
-        number: usize,
-        row: &(u32, State<D>),
-    ) -> Result<Finding, NoMemory>
+    fn row(&self, alloc: Global, number: usize, row: &(u32, State<D>)) -> Result<Finding, NoMemory>
         ensures { IfOk result (IsFindingOf (values_of D.Domain.own D.eq) self.now.image.now self.now.stubs.now self.now.table.now number row.now) }
     {
         if number == 0 && !starts(self.image, &self.start, row) {

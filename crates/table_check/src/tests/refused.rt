@@ -675,13 +675,7 @@ fn joined(alloc: Global, pieces: &[&[u8]]) -> Result<Vec<u8>, AllocError> {
     Ok(text)
 }
 
-fn check<R: Abort>(
-    rt: &R,
-    alloc: Global,
-    text: &[u8],
-    line: u64,
-    kind: u8,
-) -> Result<(), Fail> {
+fn check<R: Abort>(rt: &R, alloc: Global, text: &[u8], line: u64, kind: u8) -> Result<(), Fail> {
     let image = image(alloc)?;
     let fault = match read_table(alloc, &image, text) {
         Ok(_) => (0, 0),
