@@ -1,7 +1,7 @@
 /// Why a location is left open. The order of the variants is that of the causes in every text.
 #[derive(Clone, Copy, Debug, PartialEq, Eq, PartialOrd, Ord)]
 pub enum Cause {
-    /// The executable bytes there are no listed instruction.
+    /// The executable bytes that a row knows there begin with no instruction of the list.
     Bytes,
     /// An import without a stub.
     NoStub,
@@ -13,7 +13,7 @@ pub enum Cause {
     Stack,
     /// A store to a block that is not wholly in it.
     Block,
-    /// The instruction's bytes may have been written, or are unset.
+    /// The executable bytes that a row knows there end, before an instruction does, at one that it does not know.
     Code,
     /// A row there was not expanded.
     Budget,
