@@ -10,3 +10,4 @@ pub mod SoundReplies
 pub mod SoundStubs
 pub mod Holding
 pub mod Calling
+mod Replying
