@@ -7,8 +7,7 @@ PROGRAM is the proved and built program, crates/jakstab_main/out/jakstab_main wh
 The files are made anew in a folder of their own, which goes at the end. Each kind of code is made in two sizes, the
 second four times the first. Printed are microseconds and KiB of memory for a row of the exploration, the time beside
 what objdump takes for an instruction, and how many times longer the larger size takes. Four times the work is to take at most
-5 times the time, and a row at most 4 times objdump's time for an instruction; this last does not hold yet where each
-state has many facts, as on a deep stack, since rows do not share what they know of memory.
+5 times the time, and a row at most 4 times objdump's time for an instruction.
 """
 import os
 import shutil

@@ -6,8 +6,8 @@ use Rattle.std.specs.Prelude.{bytes_eq}
 use Rattle.clap.specs.Walk.{Text, Row}
 use Rattle.command_words.specs.declared.task.Asked.{Asked}
 use Rattle.command_words.specs.declared.words.WordsFault.TheVariants.{Usage}
-use Rattle.command_words.specs.Words.{Piece, Command, RECOVER_OPTIONS, STUBS_OPTION, DEMO_OPTIONS, all_pieces, is_refused, values_of, three_words, decoding, recover_given, recover_of, list_given, list_of, decode_of, demo_given, demo_of, command_of}
-use Rattle.command_words.specs.Reader.{recover_read, list_read, decode_read, demo_read, asked_of, IsRead, Answers}
+use Rattle.command_words.specs.Words.{Piece, Command, RECOVER_OPTIONS, STUBS_OPTION, DEMO_OPTIONS, all_pieces, is_refused, values_of, three_words, decoding, recover_given, recover_of, list_given, list_of, decode_of, run_given, run_of, replay_given, replay_of, demo_given, demo_of, command_of}
+use Rattle.command_words.specs.Reader.{recover_read, list_read, decode_read, run_read, replay_read, demo_read, asked_of, IsRead, Answers}
 use Rattle.command_words.proofs.ReaderLemmas.{same_text}
 
 -- words of which something is refused are none of the command's
@@ -46,6 +46,24 @@ decode_exact words rows r =
 pub decode_refused : (words : List Text) → is_refused [] (all_pieces words) ≡ true → decode_of words ≡ None
 decode_refused words refused = given_refused [] words (λ given. option_and_then decoding (three_words (values_of None given))) refused
 
+-- ---- `run`
+
+pub run_exact : (words : List Text) (rows : List Row) → IsRead STUBS_OPTION (all_pieces words) rows → run_read rows ≡ run_of words
+run_exact words rows r =
+    rw (r.words, r.named (codes "stubs") refl) (given_accepted STUBS_OPTION words run_given r.accepted)
+
+pub run_refused : (words : List Text) → is_refused STUBS_OPTION (all_pieces words) ≡ true → run_of words ≡ None
+run_refused words refused = given_refused STUBS_OPTION words run_given refused
+
+-- ---- `replay`
+
+pub replay_exact : (words : List Text) (rows : List Row) → IsRead STUBS_OPTION (all_pieces words) rows → replay_read rows ≡ replay_of words
+replay_exact words rows r =
+    rw (r.words, r.named (codes "stubs") refl) (given_accepted STUBS_OPTION words replay_given r.accepted)
+
+pub replay_refused : (words : List Text) → is_refused STUBS_OPTION (all_pieces words) ≡ true → replay_of words ≡ None
+replay_refused words refused = given_refused STUBS_OPTION words replay_given refused
+
 -- ---- `demo`
 
 pub demo_exact : (words : List Text) (rows : List Row) → IsRead DEMO_OPTIONS (all_pieces words) rows → demo_read rows ≡ demo_of words
@@ -71,6 +89,8 @@ pub record IsNoName (word : Text) : Type 0 where
   pub recover : word ≡ codes "recover" → ⊥
   pub list : word ≡ codes "list" → ⊥
   pub decode : word ≡ codes "decode" → ⊥
+  pub run : word ≡ codes "run" → ⊥
+  pub replay : word ≡ codes "replay" → ⊥
   pub demo : word ≡ codes "demo" → ⊥
 
 pub other_command : {Z : Type 0} (words : List (String Z)) (first : String Z) → 1 ≤ length words → first ≡ slice_index_or words 0 first → IsNoName (string_bytes first) → command_of (map string_bytes words) ≡ None
@@ -82,5 +102,7 @@ other_command (word ∷ words) first some is other =
       is_other bytes (codes "recover") o.recover,
       is_other bytes (codes "list") o.list,
       is_other bytes (codes "decode") o.decode,
+      is_other bytes (codes "run") o.run,
+      is_other bytes (codes "replay") o.replay,
       is_other bytes (codes "demo") o.demo,
     ) refl

@@ -15,7 +15,7 @@ use Rattle.command_words.specs.declared.task.Asked.{Asked}
 use Rattle.command_words.specs.declared.task.Asked.TheVariants as asked
 use Rattle.command_words.specs.declared.words.WordsFault.{WordsFault}
 use Rattle.command_words.specs.declared.words.WordsFault.TheVariants.{Usage}
-use Rattle.command_words.specs.Words.{Piece, Task, Recover, ListImage, Decode, Command, Demo, dashed, values_of, is_refused, on_image, asked_with, recover_with, demo_with, options_with, version_numbered, number_given, number_within, domain_given, file_given, only_word, ThreeWords, three_words, decoding, K_DEFAULT, K_LIMIT, BUDGET_DEFAULT, BUDGET_LIMIT}
+use Rattle.command_words.specs.Words.{Piece, Task, Recover, ListImage, Decode, Run, Replay, Command, Demo, dashed, values_of, is_refused, on_image, asked_with, recover_with, demo_with, options_with, version_numbered, number_given, number_within, domain_given, file_given, only_word, ThreeWords, three_words, decoding, running, replaying, K_DEFAULT, K_LIMIT, BUDGET_DEFAULT, BUDGET_LIMIT}
 
 -- the id of the positional words
 abbrev pub WORDS : Text
@@ -72,6 +72,12 @@ list_read rows = asked_with (only_word (listed WORDS rows)) (stubs_read rows) (S
 abbrev pub decode_read : List Row → Option Command
 decode_read rows = option_and_then decoding (three_words (listed WORDS rows))
 
+abbrev pub run_read : List Row → Option Command
+run_read rows = option_and_then (λ stubs. option_and_then (running stubs) (three_words (listed WORDS rows))) (stubs_read rows)
+
+abbrev pub replay_read : List Row → Option Command
+replay_read rows = option_and_then (λ stubs. option_map (replaying stubs) (three_words (listed WORDS rows))) (stubs_read rows)
+
 abbrev pub demo_read : List Row → Option Command
 demo_read rows = demo_with (option_and_then (number_within 0 MOST_BLOCKS) (only_word (listed WORDS rows))) (options_read rows)
 
@@ -79,6 +85,8 @@ abbrev pub task_of : TaskGiven → Task
 task_of (tasks.Recover options version) = Recover options version
 task_of tasks.List = ListImage
 task_of (tasks.Decode address count) = Decode address count
+task_of (tasks.Run start steps) = Run start.now steps
+task_of (tasks.Replay automaton taken) = Replay automaton.now taken.now
 
 abbrev pub three_of : ThreeWordsGiven → ThreeWords
 three_of words = record { first = words.first.now; second = words.second.now; third = words.third.now }

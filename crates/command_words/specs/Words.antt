@@ -11,12 +11,16 @@ use Rattle.command_words.specs.declared.task.Options.{Options}
 use Rattle.command_words.specs.declared.task.TextVersion.{TextVersion}
 use Rattle.command_words.specs.declared.task.TextVersion.TheVariants.{First, Second}
 
--- what is done with an image
+-- what is done with an image, with the names of the further inputs in the order of the words
 pub data Task : Type 0 where
   Recover : Options → TextVersion → Task
   ListImage : Task
   -- an address and a count
   Decode : ℕ → ℕ → Task
+  -- a start file and a number of steps
+  Run : List ℕ → ℕ → Task
+  -- an automaton and a record
+  Replay : List ℕ → List ℕ → Task
 
 -- the names of an image's file and of its stub file, and what is done with the image
 pub record ImageCommand : Type 0 where
@@ -62,6 +66,10 @@ number_within least most word = if is_number word && is_within least most (digit
 -- how many instructions `decode` lists, at most
 abbrev pub COUNT_LIMIT : ℕ
 COUNT_LIMIT = 100000
+
+-- how many steps `run` makes, at most
+abbrev pub STEPS_LIMIT : ℕ
+STEPS_LIMIT = 1000000
 
 -- `--k`: how many values of one rank a location sees before they are widened, where the words do not say, and at most
 abbrev pub K_DEFAULT : ℕ
@@ -253,6 +261,26 @@ decoding words = option_and_then (λ at. option_map (λ n. on_image words.first 
 abbrev pub decode_of : List (List ℕ) → Option Command
 decode_of words = option_and_then (λ given. option_and_then decoding (three_words (values_of None given))) (words_given [] words)
 
+-- `run IMAGE START STEPS`, with `--stubs`
+abbrev pub running : Option (List ℕ) → ThreeWords → Option Command
+running stubs words = option_map (λ steps. on_image words.first stubs (Run words.second steps)) (number_within 0 STEPS_LIMIT words.third)
+
+abbrev pub run_given : List Piece → Option Command
+run_given given = option_and_then (λ stubs. option_and_then (running stubs) (three_words (values_of None given))) (file_given (given_to (codes "stubs") given))
+
+abbrev pub run_of : List (List ℕ) → Option Command
+run_of words = option_and_then run_given (words_given STUBS_OPTION words)
+
+-- `replay IMAGE AUTOMATON RECORD`, with `--stubs`
+abbrev pub replaying : Option (List ℕ) → ThreeWords → Command
+replaying stubs words = on_image words.first stubs (Replay words.second words.third)
+
+abbrev pub replay_given : List Piece → Option Command
+replay_given given = option_and_then (λ stubs. option_map (replaying stubs) (three_words (values_of None given))) (file_given (given_to (codes "stubs") given))
+
+abbrev pub replay_of : List (List ℕ) → Option Command
+replay_of words = option_and_then replay_given (words_given STUBS_OPTION words)
+
 -- `demo N` with its options
 abbrev pub demo_with : Option ℕ → Option Options → Option Command
 demo_with (Some blocks) (Some options) = Some (Demo blocks options)
@@ -274,5 +302,7 @@ command_of (command ∷ words) =
     if bytes_eq command (codes "recover") then recover_of words
     else if bytes_eq command (codes "list") then list_of words
     else if bytes_eq command (codes "decode") then decode_of words
+    else if bytes_eq command (codes "run") then run_of words
+    else if bytes_eq command (codes "replay") then replay_of words
     else if bytes_eq command (codes "demo") then demo_of words
     else None

@@ -3,7 +3,7 @@ use std::alloc::{AllocError, Global};
 use std::test::Fail;
 
 // The words that are a command, each with what they ask: the command, the files and what is given to it, with `-` for no stub file.
-const ACCEPTED: [(&str, &str); 40] = [
+const ACCEPTED: [(&str, &str); 53] = [
     ("recover a", "recover a - 32 100000 bounded 2"),
     (
         "recover --k 3 a --budget=7 --domain flat",
@@ -69,6 +69,19 @@ const ACCEPTED: [(&str, &str); 40] = [
         "decode a - 4294967295 100000",
     ),
     ("decode -- -a 0000000f 0000000001", "decode -a - 15 1"),
+    ("run a b 0", "run a - b 0"),
+    ("run a b 1000000", "run a - b 1000000"),
+    ("run a b 0000000007 --stubs c", "run a c b 7"),
+    ("run --stubs=c a b 10", "run a c b 10"),
+    ("run a --stubs c b 10", "run a c b 10"),
+    ("run a -- -b 10", "run a - -b 10"),
+    ("run - - 1", "run - - - 1"),
+    ("run run run 1", "run run - run 1"),
+    ("replay a b c", "replay a - b c"),
+    ("replay a b --stubs d c", "replay a d b c"),
+    ("replay --stubs=d -- a -b --stubs", "replay a d -b --stubs"),
+    ("replay a a a", "replay a - a a"),
+    ("replay - - -", "replay - - - -"),
     ("demo 0", "demo 0 32 100000 bounded"),
     ("demo 2000", "demo 2000 32 100000 bounded"),
     ("demo 02000 --k 1", "demo 2000 1 100000 bounded"),
@@ -80,7 +93,7 @@ const ACCEPTED: [(&str, &str); 40] = [
 ];
 
 // Words that are none.
-const REFUSED: [&str; 124] = [
+const REFUSED: [&str; 111] = [
     "",
     "recover",
     "recover a b",
@@ -192,19 +205,6 @@ const REFUSED: [&str; 124] = [
     "demo 1 --budget 1000001",
     "demo 1 --domain none",
     "demo -- 1 1",
-    "run a b 0",
-    "run a b 1000000",
-    "run a b 0000000007 --stubs c",
-    "run --stubs=c a b 10",
-    "run a --stubs c b 10",
-    "run a -- -b 10",
-    "run - - 1",
-    "run run run 1",
-    "replay a b c",
-    "replay a b --stubs d c",
-    "replay --stubs=d -- a -b --stubs",
-    "replay a a a",
-    "replay - - -",
 ];
 
 fn domain_word(domain: DomainName) -> &'static str {
@@ -235,6 +235,10 @@ fn task_told(alloc: Global, files: &str, task: Task) -> Result<String, AllocErro
         }
         Task::List => format!(in alloc; "list {files}"),
         Task::Decode { address, count } => format!(in alloc; "decode {files} {address} {count}"),
+        Task::Run { start, steps } => format!(in alloc; "run {files} {start} {steps}"),
+        Task::Replay { automaton, record } => {
+            format!(in alloc; "replay {files} {automaton} {record}")
+        }
     }
 }
 

@@ -1,9 +1,9 @@
 ghost use Rattle.std.specs.Prelude.{◌≡◌, ◌≤◌, ◌<◌, ◌+◌, [], ◌∷◌, List, ℕ, length, map, drop, option_map, string_bytes, codes, Some, None, MatchResult};
 ghost use Rattle.std.specs.List.{list_all};
 ghost use Rattle.clap.specs.Words.{found_of, rows_of};
-ghost use Rattle.command_words.specs.Words.{command_of, list_of, file_given, recover_of, decode_of, demo_of, address_of, number_within, is_digit, is_number, number_given, domain_given, domain_named, only_word, three_words};
+ghost use Rattle.command_words.specs.Words.{command_of, list_of, file_given, recover_of, decode_of, run_of, replay_of, demo_of, address_of, number_within, is_digit, is_number, number_given, domain_given, domain_named, only_word, three_words};
 ghost use Rattle.command_words.specs.Given.{IsGiven};
-ghost use Rattle.command_words.specs.Reader.{WORDS, listed, options_read, version_read, recover_read, list_read, decode_read, demo_read, three_of, asked_of, Answers};
+ghost use Rattle.command_words.specs.Reader.{WORDS, listed, options_read, version_read, recover_read, list_read, decode_read, run_read, replay_read, demo_read, three_of, asked_of, Answers};
 
 use crate::reader::{
     Given, decode_reader, demo_reader, given_under, image_reader, read, recover_reader,
@@ -39,6 +39,9 @@ const TEXT: u32 = 2;
 /// The count of `decode`, at most.
 const COUNT_LIMIT: u32 = 100_000;
 
+/// The steps of `run`, at most.
+const STEPS_LIMIT: u32 = 1_000_000;
+
 /// The command that the words behind the program's name are: the names of its files, and what it does with them.
 /// `Usage` comes only where they are no command; want of memory may come at any words.
 pub fn command<'a>(alloc: Global, words: &'a [String]) -> Result<Asked<'a>, WordsFault>
@@ -50,6 +53,8 @@ pub fn command<'a>(alloc: Global, words: &'a [String]) -> Result<Asked<'a>, Word
             "recover" => recover_words(alloc, words),
             "list" => list_words(alloc, words),
             "decode" => decode_words(alloc, words),
+            "run" => run_words(alloc, words),
+            "replay" => replay_words(alloc, words),
             "demo" => demo_words(alloc, words),
             _ => Err(WordsFault::Usage),
         },
@@ -134,6 +139,65 @@ fn decode_given<'a>(matches: &ArgMatches<'a>) -> Option<Asked<'a>>
         image: words.first,
         stubs: None,
         task: Task::Decode { address, count },
+    }))
+}
+
+// The command `run IMAGE START STEPS`.
+fn run_words<'a>(alloc: Global, words: &'a [String]) -> Result<Asked<'a>, WordsFault>
+    ensures { Answers result (run_of (drop 1 (map string_bytes words.now))) }
+{
+    let Ok(command) = image_reader(alloc, "run") else {
+        return Err(WordsFault::Memory);
+    };
+    match read(command, words) {
+        Ok(matches) => run_given(&matches).ok_or(WordsFault::Usage),
+        Err(fault) => Err(fault),
+    }
+}
+
+// What was read of the words of `run`.
+fn run_given<'a>(matches: &ArgMatches<'a>) -> Option<Asked<'a>>
+    ensures { option_map asked_of result ≡ run_read (rows_of (found_of matches.now)) }
+{
+    let stubs = file_given(given_under(matches, "stubs"))?;
+    let words = three_words(matches)?;
+    let steps = number_within(words.third.as_bytes(), 0, STEPS_LIMIT)?;
+    Some(Asked::OnImage(ImageCommand {
+        image: words.first,
+        stubs,
+        task: Task::Run {
+            start: words.second,
+            steps,
+        },
+    }))
+}
+
+// The command `replay IMAGE AUTOMATON RECORD`.
+fn replay_words<'a>(alloc: Global, words: &'a [String]) -> Result<Asked<'a>, WordsFault>
+    ensures { Answers result (replay_of (drop 1 (map string_bytes words.now))) }
+{
+    let Ok(command) = image_reader(alloc, "replay") else {
+        return Err(WordsFault::Memory);
+    };
+    match read(command, words) {
+        Ok(matches) => replay_given(&matches).ok_or(WordsFault::Usage),
+        Err(fault) => Err(fault),
+    }
+}
+
+// What was read of the words of `replay`.
+fn replay_given<'a>(matches: &ArgMatches<'a>) -> Option<Asked<'a>>
+    ensures { option_map asked_of result ≡ replay_read (rows_of (found_of matches.now)) }
+{
+    let stubs = file_given(given_under(matches, "stubs"))?;
+    let words = three_words(matches)?;
+    Some(Asked::OnImage(ImageCommand {
+        image: words.first,
+        stubs,
+        task: Task::Replay {
+            automaton: words.second,
+            record: words.third,
+        },
     }))
 }
 

@@ -1,7 +1,7 @@
 -- The analysis of an image is sound for the machine that runs it, over every domain.
 use Rattle.std.proofs.Common.{◌≡◌, ℕ, ◌+◌, ◌<◌, Bool, true, false, List, [], ◌∷◌, length, take, get_or, Option, Some, None, refl, sym, ◌∙◌, ap, subst, ◌==◌, inl, inr, arith}
 use Rattle.std.specs.Prelude.{Contains, Result, Ok, Err, MatchBool, slice_get, ◌⊎◌}
-use Rattle.std.proofs.lemmas.Option.{slice_get-get_or}
+use Rattle.std.proofs.lemmas.Option.{same_Some, slice_get-get_or}
 use Rattle.address_regions.specs.Places.{Places}
 use Rattle.domain_laws.specs.Laws.{Values, IsLawful}
 use Rattle.memory_map.specs.declared.choice.Choice.{Choice}
@@ -43,6 +43,7 @@ use Rattle.flow_worklist.specs.declared.site.Site.TheVariants.{Exit, Import, Cod
 use Rattle.transfer_functions.specs.Fetching.{is_cut, known_run}
 use Rattle.flow_worklist.specs.Post.{post, site_at, unlisted_cause}
 use Rattle.flow_worklist.specs.Analysis.{analysis_of, edge_from, widened_by}
+use Rattle.flow_worklist.specs.Laws.{IsFetchedAs}
 use Rattle.flow_worklist.proofs.Posting.{no_pair, expand-named, expand-unnamed, site-code, site-import, post_is, post_code_is}
 use Rattle.flow_worklist.proofs.Fetching.{run_agrees, decoded_agrees}
 
@@ -131,6 +132,15 @@ module _ {D : Type 0} (d : Values D) (l : IsLawful d) (image : Image) (stubs : S
   unfolding fetched code_run
   fetches i n found = decoded_agrees (fetched m) bytes_there i n found
       (λ few within. run_agrees (code_at (memory m)) LONGEST_INSTRUCTION n m.eip bytes_there few within (record { byte = λ j less. byte_there d l image s p m h j (omega arith) }))
+
+  -- so what it fetches is what the row knows
+  fetched_as : (i : Instr) (n : ℕ) → site_at image m.eip ≡ Code → decoded (fetched m) ≡ Some (i, n) → IsFetchedAs d image s m i n
+  fetched_as i n at found =
+      let known : HasInstr = instr_of (decoded bytes_there) refl at in
+      let there = fetches known.instr known.size known.found in
+      let same : Some (known.instr, known.size) ≡ Some (i, n) = sym there.0 ∙ found in
+      let Is : Instr × ℕ → Type 0 = λ q. IsFetchedAs d image s m q.0 q.1 in
+      subst Is (same_Some (known.instr, known.size) (i, n) same) (record { decodes = known.found; bytes = there.1 })
 
   -- a step that leads somewhere does that instruction
   record IsDoing (choice : Choice) : Type 0 where
@@ -264,3 +274,9 @@ analysis_sound d l image stubs k loads = record {
   widen = λ seen s m well h. (h.0, covering-is_sound d l image (widened_by d k seen s) s h.0 m (widening-is_sound d l k (seen_of d seen) s well) h.1);
   step = λ s m next well h causes steps. any_found d l image stubs loads k s h.0 m next well h.1 causes steps.0 (step_is image stubs steps.0 m next steps.1);
 }
+
+pub code-is_fetched : {D : Type 0} (d : Values D) (l : IsLawful d) (image : Image) (stubs : StatedStubs) (k : ℕ) (s : Known D) (p : Places) (m : MachineState) (i : Instr) (n : ℕ)
+    → Describes d image s p m → (post d image stubs k m.eip s).causes ≡ [] → site_at image m.eip ≡ Code → decoded (fetched m) ≡ Some (i, n) → IsFetchedAs d image s m i n
+code-is_fetched d l image stubs k s p m i n h none at found =
+    let Held : List Cause → Type 0 = λ causes. (c : Cause) → Contains causes c → ⊥ in
+    fetched_as d l image stubs k s p m h (subst Held (sym none) (λ c held. Contains-none c held)) i n at found

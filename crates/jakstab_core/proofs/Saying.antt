@@ -1,31 +1,34 @@
 -- What follows of each status.
 use Rattle.std.proofs.Common.{◌≡◌, ℕ, ◌<◌, ◌≤◌, ◌⊎◌, Bool, true, false, List, [], ◌∷◌, length, Option, Some, None, refl, sym, ◌∙◌, ap, subst, inl, inr, arith}
-use Rattle.std.specs.Prelude.{IsSomeAnd, MatchResult, OnOk, OnErr, Result, Ok, Err, Vec}
-use Rattle.std.specs.Global.{Global}
+use Rattle.std.specs.Prelude.{IsSomeAnd, MatchResult, OnOk, OnErr, Result, Ok, Err}
 use Rattle.outside_io.specs.Outside.{Contents, IsWhole, Rose, Gained, GainedPrefix}
 use Rattle.memory_map.specs.Image.{Image, IsLoaded}
 use Rattle.stub_file.specs.Stubs.{StatedStubs}
 use Rattle.image_loader.specs.Loading.{first_fault}
 use Rattle.jakstab_core.specs.declared.status.Status.{Status}
 use Rattle.jakstab_core.specs.declared.status.Status.TheVariants.{Done, VerdictNo, Usage, ReadFault, TooLong, WriteFault, ImageRefused, StubsRefused, Memory, InputRefused}
+use Rattle.text_fields.specs.declared.line_fault.LineFault.{LineFault}
+use Rattle.jakstab_core.specs.declared.work.Output.{Output}
 use Rattle.jakstab_core.specs.declared.work.Work.{Work}
 use Rattle.jakstab_core.specs.declared.work.Work.TheVariants as works
 use Rattle.command_words.specs.Words.{Command, command_of}
 use Rattle.jakstab_core.specs.StatusLine.{status_line}
 use Rattle.jakstab_core.specs.Headline.{CoversRuns}
-use Rattle.jakstab_core.specs.Inputs.{Reading, Origin, File, Made, Kind, ImageFile, StubFile, Source, sources_of, IsFrom, IsFaulty, IsUnread, IsTooLong, IsRefusedAt, AreRefused, IsHeldFrom, AreHeld, stub_number, limit_of}
-use Rattle.jakstab_core.specs.Tasks.{IsOutput, Covers}
-use Rattle.jakstab_core.specs.Says.{Call, Gain, Says, OfCommand, IsDue, IsCommandRefused, IsRefused, IsUsageExact, IsFaultless, IsComplete, IsNoted, Answers}
+use Rattle.jakstab_core.specs.Inputs.{Reading, Origin, File, Made, Kind, ImageFile, StubFile, StartText, AutomatonText, RecordText, Source, sources_of, IsFrom, IsFaulty, IsToldAt, IsUnread, IsTooLong, IsRefusedAt, AreRefused, IsHeldFrom, AreHeld, start_place, stub_number, limit_of}
+use Rattle.jakstab_core.specs.Tasks.{IsOutput, IsStartRefused, Covers}
+use Rattle.jakstab_core.specs.Says.{Call, Gain, Says, OfCommand, IsDue, IsCommandRefused, IsStartless, IsRefused, IsUsageExact, IsFaultless, IsComplete, IsNoted, Answers}
 use Rattle.jakstab_core.specs.Due.{IsDelivered, OrMemory}
 use Rattle.jakstab_core.proofs.Covering.{text_covers}
 
 -- the text of work says of the machine's runs what it is to say
-covers_of : (work : Work) (stubs : StatedStubs) (image : Image) (text : List ℕ) → IsLoaded image → IsOutput work stubs image text → Covers work stubs image text
-covers_of (works.Recover options version) stubs image text loaded is =
-    let P : List ℕ → Type 0 = CoversRuns image stubs in subst P (sym is) (text_covers image stubs loaded options version)
-covers_of works.List stubs image text loaded is = tt
-covers_of (works.Decode address count) stubs image text loaded is = tt
-covers_of (works.Summarize blocks options) stubs image text loaded is = tt
+covers_of : (work : Work) (stubs : StatedStubs) (image : Image) (text : List ℕ) (refuted : Bool) → IsLoaded image → IsOutput work stubs image text refuted → Covers work stubs image text
+covers_of (works.Recover options version) stubs image text refuted loaded is =
+    let P : List ℕ → Type 0 = CoversRuns image stubs in subst P (sym is.0) (text_covers image stubs loaded options version)
+covers_of works.List stubs image text refuted loaded is = tt
+covers_of (works.Decode address count) stubs image text refuted loaded is = tt
+covers_of (works.Run start steps) stubs image text refuted loaded is = tt
+covers_of (works.Replay automaton taken) stubs image text refuted loaded is = tt
+covers_of (works.Summarize blocks options) stubs image text refuted loaded is = tt
 
 -- ---- which statuses tell of an input or of work on it
 
@@ -45,9 +48,15 @@ numbered_status : (told : ℕ → Status) → ((n : ℕ) → is_of_input (told n
 numbered_status told tells status None h = absurd h
 numbered_status told tells status (Some n) h = ap is_of_input h ∙ tells n
 
+place_status : (status : Status) (fault : LineFault) → IsToldAt status fault → is_of_input status ≡ true
+place_status status fault h = ap is_of_input h
+
 faulty_status : (kind : Kind) (bytes : List ℕ) (status : Status) → IsFaulty kind bytes status → is_of_input status ≡ true
 faulty_status ImageFile bytes status h = numbered_status ImageRefused (λ n. refl) status (first_fault bytes) h
 faulty_status StubFile bytes status h = numbered_status StubsRefused (λ n. refl) status (stub_number h.0) h.2
+faulty_status StartText bytes status h = place_status status h.0 h.2
+faulty_status AutomatonText bytes status h = place_status status h.0 h.2
+faulty_status RecordText bytes status h = place_status status h.0 h.2
 
 refused_status : (r : Reading) (s : Source) (status : Status) → IsRefusedAt r s status → is_of_input status ≡ true
 refused_status r s status (inl h) = ap is_of_input h.0
@@ -59,8 +68,21 @@ among_status r [] status h = absurd h
 among_status r (s ∷ rest) status (inl h) = refused_status r s status h
 among_status r (s ∷ rest) status (inr h) = among_status r rest status h.1
 
+placed_status : (status : Status) (place : Option LineFault) → IsSomeAnd place (IsToldAt status) → is_of_input status ≡ true
+placed_status status None h = absurd h
+placed_status status (Some fault) h = place_status status fault h
+
+start_status : (work : Work) (image : Image) (status : Status) → IsStartRefused work image status → is_of_input status ≡ true
+start_status (works.Run start steps) image status h = placed_status status (start_place h.0) h.2
+start_status (works.Replay automaton taken) image status h = placed_status status (start_place h.0) h.2
+start_status works.List image status h = absurd h
+start_status (works.Recover options version) image status h = absurd h
+start_status (works.Decode address count) image status h = absurd h
+start_status (works.Summarize blocks options) image status h = absurd h
+
 command_status : (r : Reading) (command : Command) (status : Status) → IsCommandRefused r command status → is_of_input status ≡ true
-command_status r command status h = among_status r (sources_of command) status h
+command_status r command status (inl h) = among_status r (sources_of command) status h
+command_status r command status (inr h) = start_status h.prepared.work h.prepared.image status h.refused
 
 -- ---- from why a command is refused to what its status says
 
@@ -93,7 +115,7 @@ module _ (a : Call) where
   usage_exact WriteFault out s = not_usage WriteFault (λ e. cc) s.due
   usage_exact Usage out s = (λ is. s.0, λ none. inl refl)
   usage_exact Memory out s = (λ is. absurd (cc), λ none. inr refl)
-  usage_exact VerdictNo out s = not_usage VerdictNo (λ e. cc) s.0
+  usage_exact VerdictNo out s = not_usage VerdictNo (λ e. cc) s.due
   usage_exact (ReadFault input) out s = not_usage (ReadFault input) (λ e. cc) s.0
   usage_exact (TooLong input) out s = not_usage (TooLong input) (λ e. cc) s.0
   usage_exact (ImageRefused n) out s = not_usage (ImageRefused n) (λ e. cc) s.0
@@ -146,22 +168,25 @@ module _ (r : Reading) (contents : Contents) (tells : r.held ≡ Some contents) 
   held_not_refused (s ∷ rest) h status (inr why) = held_not_refused rest h.1 status why.1
 
 module _ (a : Call) (out : Gain) (f : IsFaultless a out) where
+  neither : (status : Status) → IsCommandRefused a.shelf f.command status → ⊥
+  neither status (inl why) = held_not_refused a.shelf f.contents f.tells (sources_of f.command) f.inputs status why
+  neither status (inr why) = f.starts status why
+
   not_refused : (command : Command) (status : Status) → command ≡ f.command → IsCommandRefused a.shelf command status → ⊥
   not_refused command status same why =
-      let P : Command → Type 0 = λ c. IsCommandRefused a.shelf c status in
-      held_not_refused a.shelf f.contents f.tells (sources_of f.command) f.inputs status (subst P same why)
+      let P : Command → Type 0 = λ c. IsCommandRefused a.shelf c status in neither status (subst P same why)
 
   refusal : (status : Status) → OfCommand a (λ command. IsCommandRefused a.shelf command status) → ⊥
   refusal status of =
       let same : of.command ≡ f.command = (let e : Some of.command ≡ Some f.command = sym of.accepted ∙ f.accepted in cc) in
       not_refused of.command status same of.fact
 
-  pub completes : (status : Status) → Says status a out → (status ≡ Done) ⊎ (status ≡ Memory)
+  pub completes : (status : Status) → Says status a out → (status ≡ Done) ⊎ (status ≡ VerdictNo) ⊎ (status ≡ Memory)
   completes Done s = inl refl
-  completes Memory s = inr refl
+  completes VerdictNo s = inr (inl refl)
+  completes Memory s = inr (inr refl)
   completes Usage s = absurd (let e : Some f.command ≡ None = sym f.accepted ∙ s.0 in cc)
   completes WriteFault s = absurd (f.written s.rose)
-  completes VerdictNo s = absurd (refusal VerdictNo s.0)
   completes (ReadFault input) s = absurd (refusal (ReadFault input) s.0)
   completes (TooLong input) s = absurd (refusal (TooLong input) s.0)
   completes (ImageRefused n) s = absurd (refusal (ImageRefused n) s.0)
@@ -173,13 +198,13 @@ pub answers : (status : Status) (a : Call) (out note : Gain) → Says status a o
 answers status a out note says noted = record { says = says; usage = usage_exact a status out says; complete = λ f. completes a out f status says; noted = noted }
 
 -- a text that is due, written whole
-done_says : (a : Call) (out : Gain) (text : List ℕ) → IsDue a text → Gained out.before out.after text → Says Done a out
+done_says : (a : Call) (out : Gain) (text : List ℕ) → IsDue a text false → Gained out.before out.after text → Says Done a out
 done_says a out text due gained = record {
   text = text;
   due = due;
   gained = gained;
   covers =
-      covers_of due.fact.prepared.work due.fact.prepared.stubs due.fact.prepared.image text due.fact.prepared.loaded due.fact.is;
+      covers_of due.fact.prepared.work due.fact.prepared.stubs due.fact.prepared.image text false due.fact.prepared.loaded due.fact.is;
 }
 
 -- a refusal with nothing written
@@ -194,23 +219,26 @@ refused_says (ReadFault input) a out why same = (why, same)
 refused_says (TooLong input) a out why same = (why, same)
 refused_says (ImageRefused n) a out why same = (why, same)
 refused_says Memory a out why same = (why, same)
-refused_says VerdictNo a out why same = (why, same)
+refused_says VerdictNo a out why same = absurd (not_of_input VerdictNo a refl why)
 refused_says (StubsRefused n) a out why same = (why, same)
 refused_says (InputRefused line kind) a out why same = (why, same)
 
 -- what is due, delivered
-pub delivered_says : (due : Result (Vec ℕ Global) Status) (status : Status) (a : Call) (out : Gain)
-    → MatchResult due (λ text. IsDue a text.items) (λ refusal. IsRefused refusal a) → IsDelivered due status out → Says status a out
-delivered_says (Ok text) Done a out due given = done_says a out text.items due given
-delivered_says (Ok text) WriteFault a out due given = record { rose = given.0; text = text.items; due = due; part = given.1 }
-delivered_says (Ok text) VerdictNo a out due given = absurd given
-delivered_says (Ok text) Usage a out due given = absurd given
-delivered_says (Ok text) (ReadFault input) a out due given = absurd given
-delivered_says (Ok text) (TooLong input) a out due given = absurd given
-delivered_says (Ok text) (ImageRefused n) a out due given = absurd given
-delivered_says (Ok text) (StubsRefused n) a out due given = absurd given
-delivered_says (Ok text) Memory a out due given = absurd given
-delivered_says (Ok text) (InputRefused line kind) a out due given = absurd given
+due_as : (a : Call) (text : List ℕ) (refuted told : Bool) → refuted ≡ told → IsDue a text refuted → IsDue a text told
+due_as a text refuted told is due = let P : Bool → Type 0 = IsDue a text in subst P is due
+
+pub delivered_says : (due : Result Output Status) (status : Status) (a : Call) (out : Gain)
+    → MatchResult due (λ o. IsDue a o.text.items o.is_no) (λ refusal. IsRefused refusal a) → IsDelivered due status out → Says status a out
+delivered_says (Ok o) Done a out due given = done_says a out o.text.items (due_as a o.text.items o.is_no false given.0 due) given.1
+delivered_says (Ok o) VerdictNo a out due given = record { text = o.text.items; due = due_as a o.text.items o.is_no true given.0 due; gained = given.1 }
+delivered_says (Ok o) WriteFault a out due given = record { rose = given.0; text = o.text.items; refuted = o.is_no; due = due; part = given.1 }
+delivered_says (Ok o) Usage a out due given = absurd given
+delivered_says (Ok o) (ReadFault input) a out due given = absurd given
+delivered_says (Ok o) (TooLong input) a out due given = absurd given
+delivered_says (Ok o) (ImageRefused n) a out due given = absurd given
+delivered_says (Ok o) (StubsRefused n) a out due given = absurd given
+delivered_says (Ok o) Memory a out due given = absurd given
+delivered_says (Ok o) (InputRefused line kind) a out due given = absurd given
 delivered_says (Err refusal) status a out due given =
     let P : Status → Type 0 = λ s. Says s a out in subst P (sym given.0) (refused_says refusal a out due given.1)
 

@@ -4,4 +4,5 @@ pub mod Headline
 pub mod Summary
 pub mod Tasks
 pub mod Says
+pub mod Laws
 pub mod Due

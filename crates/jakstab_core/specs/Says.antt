@@ -1,12 +1,12 @@
 -- What the top call keeps, by its status.
-use Rattle.std.specs.Prelude.{ℕ, ◌≡◌, ◌⊎◌, List, Option, None, Some}
+use Rattle.std.specs.Prelude.{ℕ, ◌≡◌, ◌⊎◌, Bool, true, false, List, Option, None, Some}
 use Rattle.outside_io.specs.Outside.{Contents, Rose, Gained, GainedPrefix}
 use Rattle.jakstab_core.specs.declared.status.Status.{Status}
-use Rattle.jakstab_core.specs.declared.status.Status.TheVariants.{Done, Usage, WriteFault, Memory}
+use Rattle.jakstab_core.specs.declared.status.Status.TheVariants.{Done, VerdictNo, Usage, WriteFault, Memory}
 use Rattle.jakstab_core.specs.StatusLine.{status_line}
 use Rattle.command_words.specs.Words.{Command, command_of}
 use Rattle.jakstab_core.specs.Inputs.{Reading, sources_of, AreRefused, AreHeld}
-use Rattle.jakstab_core.specs.Tasks.{Prepared, IsOutput, Covers}
+use Rattle.jakstab_core.specs.Tasks.{Prepared, IsOutput, IsStartRefused, Covers}
 
 -- what a call asks: its words, and of the shelf
 pub record Call : Type 0 where
@@ -28,33 +28,45 @@ pub record OfCommand (a : Call) (Fact : Command → Type 0) : Type 0 where
 
 -- ---- what is written
 
--- a command's inputs are accepted, and this is what it writes of them
-pub record IsTextOf (held : Option Contents) (command : Command) (text : List ℕ) : Type 0 where
+-- a command's inputs are accepted, and this is what it writes of them, and whether that says no
+pub record IsTextOf (held : Option Contents) (command : Command) (text : List ℕ) (refuted : Bool) : Type 0 where
   pub prepared : Prepared held command
-  pub is : IsOutput prepared.work prepared.stubs prepared.image text
+  pub is : IsOutput prepared.work prepared.stubs prepared.image text refuted
 
-abbrev pub IsDue : Call → List ℕ → Type 0
-IsDue a text = OfCommand a (λ command. IsTextOf a.shelf.held command text)
+abbrev pub IsDue : Call → List ℕ → Bool → Type 0
+IsDue a text refuted = OfCommand a (λ command. IsTextOf a.shelf.held command text refuted)
 
+-- `out` gained exactly the command's text, which does not say no
 pub record SaysDone (a : Call) (out : Gain) : Type 0 where
-  -- `out` gained exactly the command's text
   pub text : List ℕ
-  pub due : IsDue a text
+  pub due : IsDue a text false
   pub gained : Gained out.before out.after text
   -- and no run leaves that automaton before a location printed open
   pub covers : Covers due.fact.prepared.work due.fact.prepared.stubs due.fact.prepared.image text
 
+-- `out` gained exactly the line of a verdict that is no
+pub record SaysVerdictNo (a : Call) (out : Gain) : Type 0 where
+  pub text : List ℕ
+  pub due : IsDue a text true
+  pub gained : Gained out.before out.after text
+
 pub record SaysWriteFault (a : Call) (out : Gain) : Type 0 where
   pub rose : Rose out.faults_before out.faults_after
   pub text : List ℕ
-  pub due : IsDue a text
+  pub refuted : Bool
+  pub due : IsDue a text refuted
   pub part : GainedPrefix out.before out.after text
 
 -- ---- why a call is refused before anything is written
 
--- a command is refused at one of its inputs
+-- a command's inputs are accepted, and no run begins as they say
+pub record IsStartless (held : Option Contents) (command : Command) (status : Status) : Type 0 where
+  pub prepared : Prepared held command
+  pub refused : IsStartRefused prepared.work prepared.image status
+
+-- a command is refused at one of its inputs, or since no run begins as they say
 abbrev pub IsCommandRefused : Reading → Command → Status → Type 0
-IsCommandRefused r command status = AreRefused r (sources_of command) status
+IsCommandRefused r command status = AreRefused r (sources_of command) status ⊎ IsStartless r.held command status
 
 -- want of memory is free
 abbrev pub IsRefused : Status → Call → Type 0
@@ -64,6 +76,7 @@ IsRefused status a = OfCommand a (λ command. IsCommandRefused a.shelf command s
 
 abbrev pub Says : Status → Call → Gain → Type 0
 Says Done a out = SaysDone a out
+Says VerdictNo a out = SaysVerdictNo a out
 Says WriteFault a out = SaysWriteFault a out
 Says status a out = IsRefused status a × (out.after ≡ out.before)
 
@@ -73,18 +86,19 @@ IsUsageExact status a = (status ≡ Usage → command_of a.words ≡ None) × (c
 
 -- ---- when the command is done
 
--- the words are a command whose inputs are held whole and without a fault, and nothing failed
+-- the words are a command whose inputs are held whole and without a fault, runs begin as they say, and nothing failed
 pub record IsFaultless (a : Call) (out : Gain) : Type 0 where
   pub command : Command
   pub accepted : command_of a.words ≡ Some command
   pub contents : Contents
   pub tells : a.shelf.held ≡ Some contents
   pub inputs : AreHeld a.shelf contents (sources_of command)
+  pub starts : (status : Status) → IsStartless a.shelf.held command status → ⊥
   pub written : Rose out.faults_before out.faults_after → ⊥
 
--- then the command is done, but for want of memory
+-- then the command is done, with a verdict that may be no, but for want of memory
 abbrev pub IsComplete : Status → Call → Gain → Type 0
-IsComplete status a out = IsFaultless a out → (status ≡ Done) ⊎ (status ≡ Memory)
+IsComplete status a out = IsFaultless a out → (status ≡ Done) ⊎ (status ≡ VerdictNo) ⊎ (status ≡ Memory)
 
 -- ---- what is noted
 

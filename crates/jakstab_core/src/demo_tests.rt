@@ -2,7 +2,7 @@ use crate::tests::check_text;
 use std::test::Fail;
 
 // The number of blocks, and the line: 24n + 3 rows, 14n + 2 locations and 18n + 1 edges for n blocks, n at least 1.
-const SUMMARIES: [(&str, &str); 5] = [
+const SUMMARIES: [(&str, &str); 6] = [
     ("0", "demo 0 rows 2 locations 2 edges 1 opens 0\n"),
     ("1", "demo 1 rows 27 locations 16 edges 19 opens 0\n"),
     ("2", "demo 2 rows 51 locations 30 edges 37 opens 0\n"),
@@ -10,6 +10,10 @@ const SUMMARIES: [(&str, &str); 5] = [
     (
         "100",
         "demo 100 rows 2403 locations 1402 edges 1801 opens 0\n",
+    ),
+    (
+        "2000",
+        "demo 2000 rows 48003 locations 28002 edges 36001 opens 0\n",
     ),
 ];
 

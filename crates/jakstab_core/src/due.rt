@@ -5,25 +5,24 @@ ghost use Rattle.command_words.specs.Words.{Demo, on_image};
 ghost use Rattle.jakstab_core.specs.Due.{OrMemory};
 ghost use Rattle.jakstab_core.specs.Inputs.{Reading};
 ghost use Rattle.jakstab_core.specs.Says.{IsCommandRefused, IsDue, IsRefused, IsTextOf};
-ghost use Rattle.jakstab_core.specs.Tasks.{IsTaskWork};
 
 use crate::Status;
-use crate::inputs::{laid_out, read_image, read_stub_file, stated_stubs};
-use crate::work::{Work, text_of_loaded};
-use command_words::{Asked, ImageCommand, Options, Task, WordsFault, command};
+use crate::inputs::{laid_out, read_image, read_stub_file, read_work, stated_stubs};
+use crate::work::{Output, Work, output_of_loaded};
+use command_words::{Asked, ImageCommand, Options, WordsFault, command};
 use demo_images::demo;
 use outside_io::Shelf;
 use std::alloc::Global;
 use std::thread::Threads;
 
-/// The text that the command of the words writes. Refuses as `IsRefused` says, each status for its own cause.
-pub fn due_text<R: Threads + Sync, S: Shelf>(
+/// What the command of the words writes. Refuses as `IsRefused` says, each status for its own cause.
+pub fn due_output<R: Threads + Sync, S: Shelf>(
     rt: &R,
     alloc: Global,
     words: &[String],
     shelf: &mut S,
-) -> Result<Vec<u8>, Status>
-    ensures { MatchResult result (λ text. IsDue (record { words = map string_bytes words.now; shelf = record { held = S.contents shelf.old; faults_before = S.faults shelf.old; faults_after = S.faults shelf.new } }) text.items) (λ status. IsRefused status (record { words = map string_bytes words.now; shelf = record { held = S.contents shelf.old; faults_before = S.faults shelf.old; faults_after = S.faults shelf.new } })) }
+) -> Result<Output, Status>
+    ensures { MatchResult result (λ o. IsDue (record { words = map string_bytes words.now; shelf = record { held = S.contents shelf.old; faults_before = S.faults shelf.old; faults_after = S.faults shelf.new } }) o.text.items o.is_no) (λ status. IsRefused status (record { words = map string_bytes words.now; shelf = record { held = S.contents shelf.old; faults_before = S.faults shelf.old; faults_after = S.faults shelf.new } })) }
 {
     match command(alloc, words) {
         Ok(Asked::OnImage(command)) => on_image(rt, alloc, command, shelf),
@@ -33,46 +32,36 @@ pub fn due_text<R: Threads + Sync, S: Shelf>(
     }
 }
 
-// The text of a command on an image.
+// What a command on an image writes.
 fn on_image<R: Threads + Sync, S: Shelf>(
     rt: &R,
     alloc: Global,
     command: ImageCommand,
     shelf: &mut S,
-) -> Result<Vec<u8>, Status>
-    ensures { let asked = on_image command.entry.image.now (option_map (λ s. s.now) command.entry.stubs) (task_of command.entry.task) in MatchResult result (λ text. IsTextOf (S.contents shelf.old) asked text.items) (OrMemory (IsCommandRefused (record { held = S.contents shelf.old; faults_before = S.faults shelf.old; faults_after = S.faults shelf.new }) asked)) }
+) -> Result<Output, Status>
+    ensures { let asked = on_image command.entry.image.now (option_map (λ s. s.now) command.entry.stubs) (task_of command.entry.task) in MatchResult result (λ o. IsTextOf (S.contents shelf.old) asked o.text.items o.is_no) (OrMemory (IsCommandRefused (record { held = S.contents shelf.old; faults_before = S.faults shelf.old; faults_after = S.faults shelf.new }) asked)) }
 {
     let loaded = read_image(alloc, shelf, command.image)?;
     let stubs = read_stub_file(alloc, shelf, command.stubs)?;
-    text_of_loaded(rt, alloc, loaded, &stubs, work_of(command.task))
+    let work = read_work(alloc, shelf, command.task)?;
+    output_of_loaded(rt, alloc, loaded, &stubs, work)
 }
 
-// What a task does.
-fn work_of(task: Task) -> Work
-    ensures { (held : Option Contents) → IsTaskWork held (task_of task) result }
-{
-    match task {
-        Task::Recover { options, version } => Work::Recover { options, version },
-        Task::List => Work::List,
-        Task::Decode { address, count } => Work::Decode { address, count },
-    }
-}
-
-// The text of the command on the demo image of so many blocks, whatever a shelf holds.
+// What the command on the demo image of so many blocks writes, whatever a shelf holds.
 fn on_demo<R: Threads + Sync>(
     rt: &R,
     alloc: Global,
     blocks: u32,
     options: Options,
-) -> Result<Vec<u8>, Status>
-    ensures { (r : Reading) → MatchResult result (λ text. IsTextOf r.held (Demo blocks options) text.items) (OrMemory (IsCommandRefused r (Demo blocks options))) }
+) -> Result<Output, Status>
+    ensures { (r : Reading) → MatchResult result (λ o. IsTextOf r.held (Demo blocks options) o.text.items o.is_no) (OrMemory (IsCommandRefused r (Demo blocks options))) }
 {
     let Ok((image, stubs)) = demo(alloc, blocks) else {
         return Err(Status::Memory);
     };
     let loaded = laid_out(alloc, &image)?;
     let stubs = stated_stubs(alloc, &stubs)?;
-    text_of_loaded(
+    output_of_loaded(
         rt,
         alloc,
         loaded,

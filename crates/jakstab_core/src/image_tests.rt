@@ -145,3 +145,32 @@ fn slots_are_relocated(rt: HostRuntime) -> Result<(), Fail> {
     let file = form_d(alloc, TEST_SLOT, &weak)?;
     check_both(&rt, alloc, &file, WEAK_LIST, WEAK)
 }
+
+const PUTS_FIRST: &str = "\
+jakstab-automaton 1
+entry 08048000
+loc 08048000
+loc F0000010 puts
+edge 08048000 F0000010 FF1500000009 call dword [09000000]
+open F0000010 nostub
+end 2 1 1
+";
+
+const UNKNOWN_FIRST: &str = "\
+jakstab-automaton 1
+entry 08048000
+loc 08048000
+open 08048000 target
+end 1 0 1
+";
+
+#[test]
+fn slots_are_told_without_rows(rt: HostRuntime) -> Result<(), Fail> {
+    let alloc = rt.alloc();
+    let first: &[&str] = &["recover", "--text", "1", "i"];
+    let puts = [Import::new(b"puts", false)];
+    let file = form_d(alloc, CALL_SLOT, &puts)?;
+    check_text(&rt, alloc, first, &file, PUTS_FIRST)?;
+    let file = changed(file, 163, &[10]);
+    check_text(&rt, alloc, first, &file, UNKNOWN_FIRST)
+}

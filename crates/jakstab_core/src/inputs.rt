@@ -1,17 +1,26 @@
-ghost use Rattle.std.specs.Prelude.{ℕ, List, ◌≡◌, ◌≤◌, Ok, MatchResult, option_map};
+ghost use Rattle.std.specs.Prelude.{ℕ, List, ◌≡◌, ◌≤◌, ◌<◌, ◌^◌, Ok, IfOk, MatchResult, length, option_map};
 ghost use Rattle.outside_io.specs.Outside.{IsWhole};
 ghost use Rattle.stub_file.specs.Stubs.{States};
 ghost use Rattle.image_loader.specs.Loading.{laid_out_by, load_of};
+ghost use Rattle.automaton_text.specs.Reading.{automaton_read};
+ghost use Rattle.run_replayer.specs.Grammar.{StatesRecord, StatesStart};
+ghost use Rattle.command_words.specs.Reader.{task_of};
 ghost use Rattle.jakstab_core.specs.declared.status.Input.TheVariants as inputs;
-ghost use Rattle.jakstab_core.specs.Due.{IsUnavailable, OfBytes, OrMemory};
-ghost use Rattle.jakstab_core.specs.Inputs.{AreRefused, File, ImageFile, IsFaulty, IsRefusedAt, StubFile, image_source, limit_of, named_file, stub_number, stub_sources};
-ghost use Rattle.jakstab_core.specs.Tasks.{AreStubs};
+ghost use Rattle.jakstab_core.specs.Due.{IsFew, IsUnavailable, OrMemory, text_status};
+ghost use Rattle.jakstab_core.specs.Inputs.{AreRefused, File, ImageFile, IsFaulty, IsRefusedAt, OfBytes, StubFile, automaton_source, image_source, limit_of, named_file, record_source, start_source, stub_number, stub_sources, task_sources};
+ghost use Rattle.jakstab_core.specs.Tasks.{AreStubs, IsTaskWork};
 
+use crate::work::Work;
 use crate::{Input, Status};
+use automaton_text::{Automaton, read_automaton};
+use command_words::Task;
 use image_loader::{Loaded, fault_number, load};
 use outside_io::{Shelf, ShelfFault};
+use run_replayer::{RunRecord, read_record, read_start};
 use std::alloc::Global;
 use stub_file::{StubFault, Stubs, read_stubs};
+use text_fields::{LineFault, TextFault};
+use x86_machine::StartFile;
 
 /// What the image file of a name lays out.
 pub fn read_image<S: Shelf>(alloc: Global, shelf: &mut S, name: &str) -> Result<Loaded, Status>
@@ -39,6 +48,85 @@ pub fn read_stub_file<S: Shelf>(
             let text = read_file(alloc, shelf, name, Input::Stubs)?;
             stated_stubs(alloc, &text)
         }
+    }
+}
+
+/// The work of a task, its further inputs read in the order of the words.
+pub fn read_work<S: Shelf>(alloc: Global, shelf: &mut S, task: Task) -> Result<Work, Status>
+    ensures read { MatchResult result (IsTaskWork (S.contents shelf.old) (task_of task.entry)) (OrMemory (AreRefused (record { held = S.contents shelf.old; faults_before = S.faults shelf.old; faults_after = S.faults shelf.new }) (task_sources (task_of task.entry)))) }
+    ensures few { IfOk result IsFew }
+    ensures contents { S.contents shelf.new ≡ S.contents shelf.old }
+    ensures rising { (other : List ℕ) → S.faults shelf.old other ≤ S.faults shelf.new other }
+{
+    match task {
+        Task::Recover { options, version } => Ok(Work::Recover { options, version }),
+        Task::List => Ok(Work::List),
+        Task::Decode { address, count } => Ok(Work::Decode { address, count }),
+        Task::Run { start, steps } => {
+            let start = read_start_file(alloc, shelf, start)?;
+            Ok(Work::Run { start, steps })
+        }
+        Task::Replay { automaton, record } => {
+            let automaton = read_automaton_file(alloc, shelf, automaton)?;
+            let record = read_record_file(alloc, shelf, record)?;
+            Ok(Work::Replay { automaton, record })
+        }
+    }
+}
+
+// What the start file of a name states.
+fn read_start_file<S: Shelf>(alloc: Global, shelf: &mut S, name: &str) -> Result<StartFile, Status>
+    ensures read { MatchResult result (λ start. OfBytes (S.contents shelf.old) (limit_of inputs.First) (File name.now) (λ text. StatesStart text start)) (OrMemory (IsRefusedAt (record { held = S.contents shelf.old; faults_before = S.faults shelf.old; faults_after = S.faults shelf.new }) (start_source name.now))) }
+    ensures few { IfOk result (λ start. length start.fill < 2 ^ 32) }
+    ensures contents { S.contents shelf.new ≡ S.contents shelf.old }
+    ensures rising { (other : List ℕ) → S.faults shelf.old other ≤ S.faults shelf.new other }
+{
+    let text = read_file(alloc, shelf, name, Input::First)?;
+    match read_start(alloc, &text) {
+        Ok(start) => Ok(start),
+        Err(fault) => Err(text_status(fault)),
+    }
+}
+
+// The automaton that the file of a name tells.
+fn read_automaton_file<S: Shelf>(
+    alloc: Global,
+    shelf: &mut S,
+    name: &str,
+) -> Result<Automaton, Status>
+    ensures read { MatchResult result (λ a. OfBytes (S.contents shelf.old) (limit_of inputs.First) (File name.now) (λ text. automaton_read text ≡ Ok a)) (OrMemory (IsRefusedAt (record { held = S.contents shelf.old; faults_before = S.faults shelf.old; faults_after = S.faults shelf.new }) (automaton_source name.now))) }
+    ensures contents { S.contents shelf.new ≡ S.contents shelf.old }
+    ensures rising { (other : List ℕ) → S.faults shelf.old other ≤ S.faults shelf.new other }
+{
+    let text = read_file(alloc, shelf, name, Input::First)?;
+    match read_automaton(alloc, &text) {
+        Ok(automaton) => Ok(automaton),
+        Err(fault) => Err(text_status(fault)),
+    }
+}
+
+// What the record of a name states.
+fn read_record_file<S: Shelf>(alloc: Global, shelf: &mut S, name: &str) -> Result<RunRecord, Status>
+    ensures read { MatchResult result (λ taken. OfBytes (S.contents shelf.old) (limit_of inputs.Second) (File name.now) (λ text. StatesRecord text taken)) (OrMemory (IsRefusedAt (record { held = S.contents shelf.old; faults_before = S.faults shelf.old; faults_after = S.faults shelf.new }) (record_source name.now))) }
+    ensures fill { IfOk result (λ taken. length taken.start.fill < 2 ^ 32) }
+    ensures steps { IfOk result (λ taken. length taken.steps < 2 ^ 32) }
+    ensures contents { S.contents shelf.new ≡ S.contents shelf.old }
+    ensures rising { (other : List ℕ) → S.faults shelf.old other ≤ S.faults shelf.new other }
+{
+    let text = read_file(alloc, shelf, name, Input::Second)?;
+    match read_record(alloc, &text) {
+        Ok(record) => Ok(record),
+        Err(fault) => Err(text_status(fault)),
+    }
+}
+
+// The status of a text that is refused.
+fn text_status(fault: TextFault) -> Status
+    ensures { result ≡ text_status fault }
+{
+    match fault {
+        TextFault::Line(LineFault { line, kind }) => Status::InputRefused { line, kind },
+        TextFault::Memory => Status::Memory,
     }
 }
 

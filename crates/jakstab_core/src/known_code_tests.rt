@@ -279,3 +279,87 @@ fn unset_code_is_not_known(rt: HostRuntime) -> Result<(), Fail> {
     check_text(&rt, alloc, &["list", "i"], &file, UNSET_LIST)?;
     check_text(&rt, alloc, &["recover", "i"], &file, UNSET)
 }
+
+// The slot is changed by nothing, and no executable byte is there.
+const IN_DATA: &str = "\
+jakstab-automaton 2
+entry 08048000
+loc 08048000
+loc 08048005
+loc 09000000
+edge 08048000 08048005 B800000009 mov eax, 09000000
+edge 08048005 09000000 FFE0 jmp eax
+open 09000000 bytes 2
+end 3 2 1
+";
+
+#[test]
+fn what_may_not_be_executed_is_no_code(rt: HostRuntime) -> Result<(), Fail> {
+    let alloc = rt.alloc();
+    let puts = [Import::new(b"puts", false)];
+    let file = form_d(alloc, b"\xB8\0\0\0\x09\xFF\xE0", &puts)?;
+    check_text(&rt, alloc, &["recover", "i"], &file, IN_DATA)
+}
+
+// The byte that is stored begins instructions, and no byte is behind it.
+const TOO_SHORT: &str = "\
+jakstab-automaton 2
+entry 08048000
+loc 08048000
+loc 08048007
+edge 08048000 08048007 C605078004080F mov byte [08048007], 0F
+open 08048007 bytes 1
+end 2 1 1
+";
+
+// A number in an instruction is counted up, until its fifth value is widened away.
+const WIDENED: &str = "\
+jakstab-automaton 2
+entry 08048000
+loc 08048000
+loc 08048006
+loc 08048008
+edge 08048000 08048006 FE0507800408 inc byte [08048007]
+edge 08048006 08048008 B001 mov al, 01
+edge 08048006 08048008 B002 mov al, 02
+edge 08048006 08048008 B003 mov al, 03
+edge 08048006 08048008 B004 mov al, 04
+edge 08048008 08048000 EBF6 jmp 08048000
+open 08048006 code 13
+end 3 6 1
+";
+
+const BUDGET: &str = "\
+jakstab-automaton 2
+entry 08048000
+loc 08048000
+loc 08048002
+edge 08048000 08048002 7400 je 08048002
+open 08048002 budget 1
+end 2 1 1
+";
+
+// Commands on code that may be written, and their texts.
+static ENDS_OF_CODE: [(&[&str], &[u8], &str); 3] = [
+    (
+        &["recover", "i"],
+        b"\xC6\x05\x07\x80\x04\x08\x0F\xF4",
+        TOO_SHORT,
+    ),
+    (
+        &["recover", "i", "--k", "4"],
+        b"\xFE\x05\x07\x80\x04\x08\xB0\0\xEB\xF6",
+        WIDENED,
+    ),
+    (&["recover", "i", "--budget", "1"], b"\x74\x00\xF4", BUDGET),
+];
+
+#[test]
+fn code_that_ends_is_open(rt: HostRuntime) -> Result<(), Fail> {
+    let alloc = rt.alloc();
+    for (words, code, want) in &ENDS_OF_CODE {
+        let file = form_e(alloc, code, 7)?;
+        check_text(&rt, alloc, words, &file, want)?;
+    }
+    Ok(())
+}

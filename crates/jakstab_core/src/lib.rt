@@ -9,6 +9,8 @@ mod decode_tests;
 mod demo_tests;
 mod due;
 #[cfg(test)]
+mod hostile_tests;
+#[cfg(test)]
 mod image_tests;
 #[cfg(test)]
 mod import_tests;
@@ -17,15 +19,21 @@ mod inputs;
 mod interval_tests;
 #[cfg(test)]
 mod known_code_tests;
+mod laws;
 #[cfg(test)]
 mod list_tests;
 #[cfg(test)]
 mod memory_tests;
 mod recover;
 #[cfg(test)]
+mod run_tests;
+mod running;
+#[cfg(test)]
 mod sample_files;
 #[cfg(test)]
 mod sample_tests;
+#[cfg(test)]
+mod second_list_tests;
 mod status;
 mod summary;
 #[cfg(test)]
@@ -33,5 +41,6 @@ mod tests;
 mod top;
 mod work;
 
+pub use laws::replays_find_edges;
 pub use status::{Input, Status};
 pub use top::jakstab;

@@ -2,7 +2,9 @@ use crate::tests::{file_with, sink, words_of};
 use crate::{Status, jakstab};
 use outside_io::MemoryShelf;
 use std::alloc::{AllocError, Global};
+use std::process::Abort;
 use std::test::Fail;
+use std::thread::Threads;
 
 // A switch whose table has 40 words, behind a comparison with 39.
 fn switch_forty(alloc: Global) -> Result<Vec<u8>, AllocError> {
@@ -15,6 +17,76 @@ fn switch_forty(alloc: Global) -> Result<Vec<u8>, AllocError> {
     }
     Ok(code)
 }
+
+// Does `recover` over code in one segment, of whose text this is to be the end.
+fn check_end<R: Abort + Threads + Sync>(
+    rt: &R,
+    alloc: Global,
+    words: &[&str],
+    code: &[u8],
+    end: &str,
+) -> Result<(), Fail> {
+    let words = words_of(alloc, words)?;
+    let mut shelf = MemoryShelf::new(alloc, Vec::new(alloc));
+    shelf.put("a", file_with(alloc, code)?)?;
+    let mut out = sink(alloc, 4096, Vec::new(alloc))?;
+    let mut note = sink(alloc, 4096, Vec::new(alloc))?;
+    let status = jakstab(rt, alloc, &words, &mut shelf, &mut out, &mut note);
+    assert_eq!(rt; status, Status::Done, "{end}");
+    assert!(rt; out.written().ends_with(end.as_bytes()), "{end}");
+    Ok(())
+}
+
+const FIRST: &[&str] = &["recover", "--text", "1", "a"];
+
+const FIRST_OF_FOUR: &[&str] = &["recover", "--text=1", "--k", "4", "a"];
+
+const FIRST_OF_ELEVEN: &[&str] = &["recover", "--text=1", "--k=4", "--budget=11", "a"];
+
+const FIRST_OF_ONE: &[&str] = &["recover", "--text=1", "--budget=1", "a"];
+
+static WITHOUT_ROWS: [(&[&str], &[u8], &str); 8] = [
+    (
+        FIRST,
+        b"\xFF\xE0",
+        "jakstab-automaton 1\nentry 08048000\nloc 08048000\nopen 08048000 target\nend 1 0 1\n",
+    ),
+    (
+        FIRST,
+        b"\x89\x08",
+        "loc 08048000\nopen 08048000 store\nend 1 0 1\n",
+    ),
+    (
+        FIRST_OF_FOUR,
+        b"\xE8\xFB\xFF\xFF\xFF",
+        "open 08048000 store\nend 1 1 1\n",
+    ),
+    (
+        FIRST,
+        b"\x81\xEC\0\0\x20\0\x50",
+        "open 08048006 stack\nend 2 1 1\n",
+    ),
+    (
+        FIRST,
+        b"\x74\x01\xE9\x90\x90\xF4\x00",
+        "open 08F91097 bytes\nend 6 5 1\n",
+    ),
+    (
+        FIRST,
+        b"\xE9\xFB\x7F\xFB\xF7",
+        "open 00000000 bytes\nend 2 1 1\n",
+    ),
+    (
+        FIRST_OF_ELEVEN,
+        b"\xB8\0\0\0\0\x40\xEB\xFD",
+        "open 08048005 budget\nend 3 3 1\n",
+    ),
+    (
+        FIRST_OF_ONE,
+        b"\x74\x00\xF4",
+        "open 08048002 budget\nend 2 1 1\n",
+    ),
+];
 
 const TWO_CALLS: &str = "\
 edge 08048000 0804800B E806000000 call 0804800B
@@ -102,14 +174,25 @@ fn texts_of_memory_and_of_faults_end_so(rt: HostRuntime) -> Result<(), Fail> {
         ),
     ];
     for (words, code, end) in rows {
-        let words = words_of(alloc, words)?;
-        let mut shelf = MemoryShelf::new(alloc, Vec::new(alloc));
-        shelf.put("a", file_with(alloc, code)?)?;
-        let mut out = sink(alloc, 4096, Vec::new(alloc))?;
-        let mut note = sink(alloc, 4096, Vec::new(alloc))?;
-        let status = jakstab(&rt, alloc, &words, &mut shelf, &mut out, &mut note);
-        assert_eq!(rt; status, Status::Done, "{end}");
-        assert!(rt; out.written().ends_with(end.as_bytes()), "{end}");
+        check_end(&rt, alloc, words, code, end)?;
+    }
+    Ok(())
+}
+
+// In the first version of the text marks have no rows.
+#[test]
+fn texts_without_rows_end_so(rt: HostRuntime) -> Result<(), Fail> {
+    let alloc = rt.alloc();
+    let forty = switch_forty(alloc)?;
+    check_end(
+        &rt,
+        alloc,
+        FIRST,
+        &forty,
+        "open 08048005 target\nend 4 3 1\n",
+    )?;
+    for (words, code, end) in &WITHOUT_ROWS {
+        check_end(&rt, alloc, words, code, end)?;
     }
     Ok(())
 }

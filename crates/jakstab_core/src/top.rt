@@ -3,7 +3,8 @@ ghost use Rattle.jakstab_core.specs.Due.{IsDelivered};
 ghost use Rattle.jakstab_core.specs.Says.{Answers};
 
 use crate::Status;
-use crate::due::due_text;
+use crate::due::due_output;
+use crate::work::Output;
 use outside_io::{Shelf, Sink, write_all};
 use std::alloc::Global;
 use std::thread::Threads;
@@ -19,18 +20,24 @@ pub fn jakstab<R: Threads + Sync, S: Shelf, K: Sink>(
 ) -> Status
     ensures { Answers result (record { words = map string_bytes words.now; shelf = record { held = S.contents shelf.old; faults_before = S.faults shelf.old; faults_after = S.faults shelf.new } }) (record { before = K.written out.old; after = K.written out.new; faults_before = K.faults out.old; faults_after = K.faults out.new }) (record { before = K.written note.old; after = K.written note.new; faults_before = K.faults note.old; faults_after = K.faults note.new }) }
 {
-    let status = deliver(due_text(rt, alloc, words, shelf), out);
+    let status = deliver(due_output(rt, alloc, words, shelf), out);
     let _ = write_all(note, status.line().as_bytes());
     status
 }
 
 // Writes the text that is due, or hands on the refusal.
-fn deliver<K: Sink>(due: Result<Vec<u8>, Status>, out: &mut K) -> Status
+fn deliver<K: Sink>(due: Result<Output, Status>, out: &mut K) -> Status
     ensures { IsDelivered due result (record { before = K.written out.old; after = K.written out.new; faults_before = K.faults out.old; faults_after = K.faults out.new }) }
 {
     match due {
-        Ok(text) => match write_all(out, &text) {
-            Ok(()) => Status::Done,
+        Ok(output) => match write_all(out, &output.text) {
+            Ok(()) => {
+                if output.is_no {
+                    Status::VerdictNo
+                } else {
+                    Status::Done
+                }
+            }
             Err(_) => Status::WriteFault,
         },
         Err(refusal) => refusal,

@@ -1,23 +1,27 @@
-ghost use Rattle.std.specs.Prelude.{◌≡◌, IfOk, MatchResult};
+ghost use Rattle.std.specs.Prelude.{◌≡◌, MatchResult, Ok, false};
 ghost use Rattle.memory_map.specs.Image.{IsLoaded};
 ghost use Rattle.image_loader.specs.Loading.{laid_out_by};
-ghost use Rattle.jakstab_core.specs.Due.{OfImage};
-ghost use Rattle.jakstab_core.specs.Tasks.{IsOutput};
+ghost use Rattle.jakstab_core.specs.Due.{IsFew, OfImage, OrMemory};
+ghost use Rattle.jakstab_core.specs.Tasks.{IsOutput, IsStartRefused};
 
 use crate::Status;
 use crate::recover::recovered_text;
+use crate::running::{run_output, verdict_output};
 use crate::summary::summary;
+use automaton_text::Automaton;
 use bit_words::NoMemory;
 use command_words::{Options, TextVersion};
 use decode_listing::print_listing;
 use image_listing::print_list;
 use image_loader::{Image, Loaded};
+use run_replayer::RunRecord;
 use std::alloc::Global;
 use std::thread::Threads;
 use stub_file::Stubs;
+use x86_machine::StartFile;
 
-/// What is done with an image.
-#[derive(Clone, Copy)]
+/// What is done with an image, the further inputs read.
+#[derive(Drop)]
 pub enum Work {
     /// Recovers its automaton, and prints it in this version.
     Recover {
@@ -31,6 +35,16 @@ pub enum Work {
         address: u32,
         count: u32,
     },
+    /// Runs the machine from a start file, at most so many steps, and prints the record.
+    Run {
+        start: StartFile,
+        steps: u32,
+    },
+    /// Replays a record against an automaton.
+    Replay {
+        automaton: Automaton,
+        record: RunRecord,
+    },
     /// Sums up the log of the demo image of so many blocks.
     Summarize {
         blocks: u32,
@@ -38,43 +52,65 @@ pub enum Work {
     },
 }
 
-/// The text that work on an image writes, which is bound to its stubs first.
-pub fn text_of_loaded<R: Threads + Sync>(
+/// What work writes, and whether that says no.
+#[derive(Drop)]
+pub struct Output {
+    pub text: Vec<u8>,
+    pub is_no: bool,
+}
+
+/// What work on an image writes, which is bound to its stubs first.
+pub fn output_of_loaded<R: Threads + Sync>(
     rt: &R,
     alloc: Global,
     loaded: Loaded,
     stubs: &Stubs,
     work: Work,
-) -> Result<Vec<u8>, Status>
-    ensures { MatchResult result (λ text. OfImage (laid_out_by loaded) stubs.now (λ image. IsOutput work stubs.now image text.items)) (λ status. status ≡ Status.Memory) }
+) -> Result<Output, Status>
+    requires { IsFew work }
+    ensures { MatchResult result (λ o. OfImage (laid_out_by loaded) stubs.now (λ image. IsOutput work stubs.now image o.text.items o.is_no)) (OrMemory (λ status. OfImage (laid_out_by loaded) stubs.now (λ image. IsStartRefused work image status))) }
 {
     match loaded.bind(alloc, stubs) {
-        Ok(image) => match output(rt, alloc, work, stubs, &image) {
-            Ok(text) => Ok(text),
-            Err(_) => Err(Status::Memory),
-        },
+        Ok(image) => output_of_image(rt, alloc, work, stubs, &image),
         Err(_) => Err(Status::Memory),
     }
 }
 
-// The text that work on an image writes.
-fn output<R: Threads + Sync>(
+// What work on an image writes.
+fn output_of_image<R: Threads + Sync>(
     rt: &R,
     alloc: Global,
     work: Work,
     stubs: &Stubs,
     image: &Image,
-) -> Result<Vec<u8>, NoMemory>
-    ensures text { IfOk result (λ text. IsOutput work stubs.now image.now text.items) }
+) -> Result<Output, Status>
+    requires { IsFew work }
+    ensures text { MatchResult result (λ o. IsOutput work stubs.now image.now o.text.items o.is_no) (OrMemory (IsStartRefused work image.now)) }
     ensures loaded { IsLoaded image.now }
 {
     let _ = image.entry();
     match work {
         Work::Recover { options, version } => {
-            recovered_text(rt, alloc, image, stubs, options, version)
+            plain(recovered_text(rt, alloc, image, stubs, options, version))
         }
-        Work::List => print_list(alloc, image, stubs),
-        Work::Decode { address, count } => print_listing(alloc, image, address, count),
-        Work::Summarize { blocks, options } => summary(rt, alloc, image, stubs, blocks, options),
+        Work::List => plain(print_list(alloc, image, stubs)),
+        Work::Decode { address, count } => plain(print_listing(alloc, image, address, count)),
+        Work::Run { start, steps } => run_output(alloc, image, stubs, &start, steps),
+        Work::Replay { automaton, record } => {
+            verdict_output(alloc, image, stubs, &automaton, &record)
+        }
+        Work::Summarize { blocks, options } => {
+            plain(summary(rt, alloc, image, stubs, blocks, options))
+        }
+    }
+}
+
+// A text that does not say no.
+fn plain(text: Result<Vec<u8>, NoMemory>) -> Result<Output, Status>
+    ensures { MatchResult result (λ o. (text ≡ Ok o.text) × (o.is_no ≡ false)) (λ status. status ≡ Status.Memory) }
+{
+    match text {
+        Ok(text) => Ok(Output { text, is_no: false }),
+        Err(_) => Err(Status::Memory),
     }
 }

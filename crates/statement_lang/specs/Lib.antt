@@ -1,3 +1,5 @@
 pub mod Run
 pub mod Cells
 pub mod Flowing
+pub mod Indexed
+pub mod Filling

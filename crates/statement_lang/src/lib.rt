@@ -6,6 +6,7 @@
 mod block;
 mod cells;
 mod conditions;
+mod mapped;
 mod memory;
 mod parts;
 mod rules;
@@ -14,6 +15,7 @@ mod stmt;
 
 pub use block::Block;
 pub use cells::Cells;
+pub use rules::status_of;
 pub use running::run_stmts;
 pub use stmt::{Ran, Source, Stmt, Stmts, Test};
 pub use x86_semantics::FlagRule;

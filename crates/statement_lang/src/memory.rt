@@ -79,14 +79,14 @@ impl Cells {
         true
     }
 
-    // Puts the low bytes of a number from an address on.
-    fn put_number(&mut self, count: u32, a: u32, v: u32)
+    /// Puts the low bytes of a number from an address on, where they may be written.
+    pub fn put_number(&mut self, count: u32, a: u32, v: u32)
         ensures { self.new ≡ with_number count a v self.old }
     {
         let mut at = a;
         let mut left = v;
         for _i in 0..count {
-            self.put(at, (left % 256) as u8);
+            self.put(u64::from(at), (left % 256) as u8);
             at = next_byte(at);
             left /= 256;
         }

@@ -4,6 +4,7 @@ ghost use Rattle.bit_words.specs.Flags.{difference_flags, flags_by, has_sign, lo
 ghost use Rattle.bit_words.specs.Width.{bits_of, cut, is_signed, signed_of};
 ghost use Rattle.x86_semantics.specs.FlagRules.{both_by, changes_sign, freed_by, is_set, of_result, rotate_left_flags, rotate_right_flags, ruled, shift_left_flags, shift_right_flags, status_flags, unless_zero, with_status};
 ghost use Rattle.statement_lang.specs.Cells.{flags_of};
+ghost use Rattle.statement_lang.specs.Filling.{status_of};
 ghost use Rattle.statement_lang.specs.Run.{set_to};
 
 use bit_words::{Flags, Width, flags_of_add, flags_of_logic, flags_of_sub};
@@ -19,6 +20,13 @@ fn status_flags() -> Flags
         .union(Flags::ZERO)
         .union(Flags::SIGN)
         .union(Flags::OVERFLOW)
+}
+
+/// The status flags of a byte, CF PF AF ZF SF OF from bit 0 on; DF is clear.
+pub fn status_of(bits: u8) -> Flags
+    ensures { flags_of result ≡ status_of (record { 0 = bits }) }
+{
+    Flags::empty().replaced(status_flags(), Flags::from_bits_retain(bits))
 }
 
 /// Whether CF is set.

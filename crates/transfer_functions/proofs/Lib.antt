@@ -26,3 +26,4 @@ pub mod KeepingOperations
 pub mod Soundness
 pub mod BlockPlaces
 pub mod Fetching
+mod Targeting

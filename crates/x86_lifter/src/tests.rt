@@ -429,6 +429,14 @@ fn zeros(alloc: Global, count: usize) -> Result<Vec<u8>, Fail> {
     Ok(bytes)
 }
 
+fn map(cells: &mut Cells, block: Block) -> Result<(), Fail> {
+    if !cells.may_map(&block) {
+        return Err(Fail::from("a range beside the others"));
+    }
+    cells.map(block)?;
+    Ok(())
+}
+
 // The state before any line sets anything.
 fn start(alloc: Global) -> Result<Cells, Fail> {
     let registers = Regs {
@@ -442,18 +450,27 @@ fn start(alloc: Global) -> Result<Cells, Fail> {
         edi: 0,
     };
     let stack = Block::new(0x0010_0000, zeros(alloc, 256)?, true, false);
-    let mut ranges = Vec::new(alloc);
-    ranges.push(Block::new(0x1000_0000, zeros(alloc, 256)?, true, false))?;
-    ranges.push(Block::new(0x2000_0000, zeros(alloc, 64)?, false, false))?;
-    Ok(Cells::new(
+    if !stack.is_in_user_space() {
+        return Err(Fail::from("a stack window"));
+    }
+    let mut cells = Cells::new(
         registers,
         0x0804_8000,
         Flags::empty(),
         0x1000_0040,
         0x1000_0080,
         stack,
-        ranges,
-    ))
+        alloc,
+    );
+    map(
+        &mut cells,
+        Block::new(0x1000_0000, zeros(alloc, 256)?, true, false),
+    )?;
+    map(
+        &mut cells,
+        Block::new(0x2000_0000, zeros(alloc, 64)?, false, false),
+    )?;
+    Ok(cells)
 }
 
 fn register_number(name: &str) -> Option<u8> {

@@ -18,16 +18,16 @@ use Rattle.x86_semantics.specs.Operations.{operation_of}
 use Rattle.import_semantics.specs.StubDoes.{Returned, after_call, bad_of, block_of, end_by, fault_of, is_allowed, may_fail, stub_does}
 use Rattle.import_semantics.proofs.Returning.{calls_fail, calls_return}
 use Rattle.x86_machine.specs.Laws.{HasRoom, ImportsExit, ImportsFault, ImportsStep, InstructionsFault, InstructionsStep, IsAt, IsAtImport}
-use Rattle.x86_machine.specs.StepBy.{AtInstr, AtName, Outcome, StepBy, exited, faulted, fetched, import_outcome, outcome_of, outcome_of_stub, stepped, unless_never}
+use Rattle.x86_machine.specs.StepBy.{AtInstr, AtName, StepEnd, StepBy, exited, faulted, fetched, import_outcome, outcome_of, outcome_of_stub, stepped, unless_never}
 use Rattle.x86_machine.proofs.Accesses.{EndsBy}
 use Rattle.x86_machine.proofs.Ending.{ends_by_fault}
 
-module _ (image : Image) (stubs : StatedStubs) (choice : Choice) (m : MachineState) (outcome : Outcome) where
+module _ (image : Image) (stubs : StatedStubs) (choice : Choice) (m : MachineState) (outcome : StepEnd) where
   -- a step is one by the name at EIP
   abbrev ByExit : Bool → Type 0
   ByExit b = MatchBool b (outcome ≡ exited) (AtName stubs (name_at image m.eip) choice m outcome)
 
-  named_step : m.eip ≢ EXIT_PLACE → AtName stubs (name_at image m.eip) choice m outcome → StepBy image stubs choice m outcome
+  pub named_step : m.eip ≢ EXIT_PLACE → AtName stubs (name_at image m.eip) choice m outcome → StepBy image stubs choice m outcome
   unfolding StepBy
   named_step runs h = subst ByExit (sym (ne_eqb m.eip EXIT_PLACE runs)) h
 
@@ -89,7 +89,7 @@ instructions_fault image stubs m i n at choice kind =
 
 -- ---- imports
 
-not_never : (r : Reply) (outcome : Outcome) → r ≢ Never → unless_never r outcome ≡ outcome
+pub not_never : (r : Reply) (outcome : StepEnd) → r ≢ Never → unless_never r outcome ≡ outcome
 not_never Anything outcome on = refl
 not_never (Number n) outcome on = refl
 not_never (Block size zeroed may) outcome on = refl
@@ -97,16 +97,16 @@ not_never Never outcome on = absurd (on refl)
 not_never (Enter i) outcome on = refl
 
 -- what comes of a stub's step
-abbrev outcome_by : Stub → Choice → MachineState → Outcome
+abbrev outcome_by : Stub → Choice → MachineState → StepEnd
 outcome_by stub choice m = unless_never stub.reply (outcome_of_stub (stub_does stub choice m))
 
-ends_step : (image : Image) (stubs : StatedStubs) (m : MachineState) (stub : Stub) → IsAtImport image stubs m stub → (choice : Choice) (outcome : Outcome)
+ends_step : (image : Image) (stubs : StatedStubs) (m : MachineState) (stub : Stub) → IsAtImport image stubs m stub → (choice : Choice) (outcome : StepEnd)
     → outcome ≡ outcome_by stub choice m
     → StepBy image stubs choice m outcome
 ends_step image stubs m stub at choice outcome e =
     named_step image stubs choice m outcome at.runs (subst (ByName image stubs choice m outcome) (sym at.named) (e ∙ sym (ap (λ s. import_outcome s choice m) at.has_stub)))
 
-step_ends : (image : Image) (stubs : StatedStubs) (m : MachineState) (stub : Stub) → IsAtImport image stubs m stub → (choice : Choice) (outcome : Outcome)
+step_ends : (image : Image) (stubs : StatedStubs) (m : MachineState) (stub : Stub) → IsAtImport image stubs m stub → (choice : Choice) (outcome : StepEnd)
     → StepBy image stubs choice m outcome
     → outcome ≡ outcome_by stub choice m
 step_ends image stubs m stub at choice outcome h =

@@ -14,7 +14,7 @@ use Rattle.x86_semantics.specs.Operations.{operation_of}
 use Rattle.import_semantics.specs.StubDoes.{amount, block_size, fault_of, fresh_block, may_lie}
 use Rattle.x86_machine.specs.Faults.{first_fault}
 use Rattle.x86_machine.specs.Machine.{Steps}
-use Rattle.x86_machine.specs.StepBy.{Outcome, StepBy, exited, faulted, fetched, stepped}
+use Rattle.x86_machine.specs.StepBy.{StepEnd, StepBy, exited, faulted, fetched, stepped}
 
 -- ---- instructions
 
@@ -65,5 +65,5 @@ ImportsFault =
 -- where it never returns the run has exited, whatever faults hold
 abbrev pub ImportsExit : Type 0
 ImportsExit =
-    (image : Image) (stubs : StatedStubs) (m : MachineState) (stub : Stub) → IsAtImport image stubs m stub → stub.reply ≡ Never → (choice : Choice) (outcome : Outcome)
+    (image : Image) (stubs : StatedStubs) (m : MachineState) (stub : Stub) → IsAtImport image stubs m stub → stub.reply ≡ Never → (choice : Choice) (outcome : StepEnd)
     → StepBy image stubs choice m outcome ↔ (outcome ≡ exited)

@@ -1,0 +1,15 @@
+pub mod Making
+pub mod Searching
+pub mod Replays
+pub mod Once
+pub mod Leaving
+pub mod FieldForms
+pub mod LineTexts
+pub mod HeadTold
+pub mod StartTold
+pub mod RecordTold
+pub mod FieldReads
+pub mod FillFacts
+pub mod RecordRead
+pub mod Bounds
+pub mod RecordBounds

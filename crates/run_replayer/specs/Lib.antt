@@ -1,0 +1,9 @@
+pub mod Texts
+pub mod Fields
+pub mod Grammar
+pub mod StartRefused
+pub mod Record
+pub mod Verdict
+pub mod VerdictLine
+pub mod Replaying
+pub mod Laws
