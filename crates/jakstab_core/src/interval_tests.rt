@@ -1,5 +1,4 @@
-use crate::tests::check_text;
-use demo_images::form_e;
+use crate::tests::{check_text, file_with, writable_file};
 use std::alloc::{AllocError, Global};
 use std::test::Fail;
 
@@ -53,9 +52,9 @@ fn ranges_bound_what_is_stored(rt: HostRuntime) -> Result<(), Fail> {
     let alloc = rt.alloc();
     let interval: &[&str] = &["recover", "--domain", "interval", "i"];
     let four: &[&str] = &["recover", "--k=4", "--domain=interval", "i"];
-    let file = form_e(alloc, &bounded_store(alloc)?, 7)?;
+    let file = writable_file(alloc, &bounded_store(alloc)?)?;
     check_text(&rt, alloc, interval, &file, STORED)?;
     check_text(&rt, alloc, &["recover", "i"], &file, NOT_STORED)?;
-    let file = form_e(alloc, b"\xE8\xFB\xFF\xFF\xFF", 5)?;
+    let file = file_with(alloc, b"\xE8\xFB\xFF\xFF\xFF")?;
     check_text(&rt, alloc, four, &file, PUSHED)
 }

@@ -1,5 +1,5 @@
-use crate::tests::{changed, check_text};
-use demo_images::{Import, form_d, form_e};
+use crate::tests::{changed, check_text, writable_file};
+use demo_images::{Import, form_d};
 use std::test::Fail;
 
 // The store changes the `hlt` behind it to `nop`, and behind that no byte is.
@@ -243,7 +243,7 @@ static PATCHED: [(&[u8], &str, &str); 8] = [
 fn changed_code_is_followed(rt: HostRuntime) -> Result<(), Fail> {
     let alloc = rt.alloc();
     for (code, second, first) in &PATCHED {
-        let file = form_e(alloc, code, 7)?;
+        let file = writable_file(alloc, code)?;
         check_text(&rt, alloc, &["recover", "i"], &file, second)?;
         check_text(&rt, alloc, &["recover", "--text=2", "i"], &file, second)?;
         check_text(&rt, alloc, &["recover", "--text", "1", "i"], &file, first)?;
@@ -358,7 +358,7 @@ static ENDS_OF_CODE: [(&[&str], &[u8], &str); 3] = [
 fn code_that_ends_is_open(rt: HostRuntime) -> Result<(), Fail> {
     let alloc = rt.alloc();
     for (words, code, want) in &ENDS_OF_CODE {
-        let file = form_e(alloc, code, 7)?;
+        let file = writable_file(alloc, code)?;
         check_text(&rt, alloc, words, &file, want)?;
     }
     Ok(())

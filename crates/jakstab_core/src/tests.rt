@@ -14,6 +14,11 @@ pub fn file_with(alloc: Global, code: &[u8]) -> Result<Vec<u8>, NoMemory> {
     form_e(alloc, &code[..code.len().min(4096)], 5)
 }
 
+// The same where it may be written too.
+pub fn writable_file(alloc: Global, code: &[u8]) -> Result<Vec<u8>, NoMemory> {
+    form_e(alloc, &code[..code.len().min(4096)], 7)
+}
+
 pub fn words_of(alloc: Global, words: &[&str]) -> Result<Vec<String>, AllocError> {
     let mut all = Vec::new(alloc);
     for word in words {
