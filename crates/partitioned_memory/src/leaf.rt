@@ -15,11 +15,11 @@ pub(crate) struct Leaf<V> {
     pub(crate) pairs: Vec<(Spot, V)>,
 }
 
-// How many pairs a leaf may have.
-const LARGEST: usize = 64;
+// How many pairs a leaf may have. A store copies one leaf, and a copy of the list shares each.
+const LARGEST: usize = 16;
 
 // How many go into each leaf but the last where there are too many for one. Three hold two full leaves and a pair.
-const PART: usize = 44;
+const PART: usize = 12;
 
 impl<V: Copy> Leaf<V> {
     pub(crate) fn len(&self) -> usize

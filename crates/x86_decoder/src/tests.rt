@@ -284,17 +284,22 @@ E9 FB 7F FB E7|jmp F0000000
 0F AC D1 08|shrd ecx, edx, 08
 66 0F AC C3 00|shrd bx, ax, 00
 0F AD C2|shrd edx, eax, cl
+66 0F AD C2|shrd dx, ax, cl
 64 0F AD 03|shrd dword fs:[ebx], eax, cl
 0F A3 C8|bt eax, ecx
 66 0F A3 D6|bt si, dx
 0F AB D8|bts eax, ebx
 66 0F AB F7|bts di, si
 0F B3 CA|btr edx, ecx
+66 0F B3 CA|btr dx, cx
 0F BB C4|btc esp, eax
+66 0F BB C4|btc sp, ax
 0F BA E0 1F|bt eax, 1F
 66 0F BA E3 0F|bt bx, 0F
 0F BA E9 00|bts ecx, 00
+66 0F BA E9 00|bts cx, 00
 0F BA F2 07|btr edx, 07
+66 0F BA F2 07|btr dx, 07
 0F BA FF 20|btc edi, 20
 66 0F BA F8 80|btc ax, 80
 64 0F BA E0 01|bt eax, 01
