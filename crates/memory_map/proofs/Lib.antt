@@ -7,3 +7,4 @@ pub mod Alignments
 pub mod Patching
 pub mod Reaching
 pub mod Writing
+pub mod Indexing

@@ -1,5 +1,6 @@
 pub mod Range
 pub mod Spans
+pub mod Indexing
 pub mod Patch
 pub mod Map
 pub mod Name

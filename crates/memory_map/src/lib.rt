@@ -20,6 +20,7 @@ mod runs;
 mod segment;
 mod segments;
 mod span;
+mod span_index;
 
 pub use alignment::is_alignment;
 pub use bytes::Bytes;

@@ -244,3 +244,40 @@ fn an_address_is_in_a_range_from_its_low_to_below_its_end(rt: HostRuntime) -> Re
     assert_eq!(rt; ranges.into_vec().len(), 3);
     Ok(())
 }
+
+// One long range, and 30 below one another of 0 to 9 addresses.
+fn many_ranges(alloc: Global) -> Result<Ranges, Fail> {
+    let mut spans = Vec::new(alloc);
+    spans.push(Span { low: 700, size: 55 })?;
+    for i in 0..30u32 {
+        spans.push(Span {
+            low: 1000 - 10 * i,
+            size: i % 10,
+        })?;
+    }
+    Ok(Ranges::from_vec(spans))
+}
+
+#[test]
+fn an_address_is_found_among_many_ranges(rt: HostRuntime) -> Result<(), Fail> {
+    let ranges = many_ranges(rt.alloc())?;
+    for (a, want) in [
+        (699, false),
+        (700, true),
+        (739, true),
+        (754, true),
+        (755, false),
+        (763, true),
+        (764, false),
+        (900, false),
+        (918, true),
+        (919, false),
+        (990, true),
+        (1000, false),
+        (0x1_0000_0000, false),
+    ] {
+        assert_eq!(rt; ranges.has(a), want, "at {a}");
+    }
+    assert_eq!(rt; ranges.into_vec().len(), 31);
+    Ok(())
+}
