@@ -1,16 +1,20 @@
 -- The test of lists of which parts may be built is right: it holds exactly of lists that are well.
-use Rattle.std.proofs.Common.{◌≡◌, ℕ, ◌<◌, ◌^◌, Bool, true, false, List, [], ◌∷◌, map, Option, Some, None, refl, sym, ap, ◌∙◌, subst, arith, ℤ, pos, neg_ℤ, ◌+ℤ◌, ◌≤ℤ◌, ◌<ℤ◌, inl, inr}
-use Rattle.std.specs.Prelude.{◌&&◌, ◌==◌, not, nat_lt, int_le, int_lt}
-use Rattle.std.specs.List.{list_all}
+use Rattle.std.proofs.Common.{◌≡◌, ℕ, suc, zero, ◌+◌, ◌<◌, ◌^◌, Bool, true, false, List, [], ◌∷◌, length, get_or, map, take, drop, Option, Some, None, refl, sym, ap, ◌∙◌, subst, arith, ℤ, pos, neg_ℤ, ◌≤ℤ◌, inl, inr}
+use Rattle.std.specs.Prelude.{◌&&◌, ◌||◌, ◌==◌, ⊤, not, nat_lt, int_le, int_lt, slice_get}
+use Rattle.std.specs.List.{IsAllAdjacentAnswer, list_all}
 use Rattle.std.specs.Option.{option_map_or}
 use Rattle.std.proofs.lemmas.Bool.Decides.{nat_tests}
 use Rattle.std.proofs.lemmas.Int.{ints}
+use Rattle.std.specs.Ordering.{is_eq}
 use Rattle.std.specs.declared.cmp.Ordering.TheVariants.{Less}
+use Rattle.std.proofs.lemmas.Bool.{false≢true}
 use Rattle.bit_words.specs.declared.width.Width.{Width}
 use Rattle.bit_words.specs.Width.{bits_of}
 use Rattle.address_regions.specs.declared.region.Region.{Region}
 use Rattle.address_regions.specs.declared.region.Region.TheVariants.{Stack, Fs, Gs, Block}
 use Rattle.address_regions.specs.Extents.{has_one_base}
+use Rattle.address_regions.specs.Same.{same_region}
+use Rattle.address_regions.proofs.RegionLaws.{same_region-is}
 use Rattle.domain_laws.specs.Laws.{Values}
 use Rattle.domain_laws.specs.Reached.{named}
 use Rattle.partitioned_memory.specs.declared.area.Area.{Area}
@@ -21,15 +25,16 @@ use Rattle.partitioned_memory.specs.declared.fact.Dirty.{Dirty}
 use Rattle.partitioned_memory.specs.declared.fact.Counted.{Counted}
 use Rattle.partitioned_memory.specs.declared.fact.Held.{Held}
 use Rattle.partitioned_memory.specs.declared.fact.Spot.{Spot}
-use Rattle.partitioned_memory.specs.Areas.{IsBounded, IsInside, area_cmp, block_in, bounds_of, is_marked}
-use Rattle.partitioned_memory.specs.Building.{are_sound_facts, are_well, ascend, fits_width, has_count, is_block, is_counted_dirty, is_counted_fact, is_counted_value, is_sound_dirty, is_sound_fact, lies_inside}
-use Rattle.partitioned_memory.specs.Held.{PartsHeld, count_before, dirty_at, dirty_before, fact_at, fact_before, interval_of_dirty, interval_of_fact, is_counted, pair_of_dirty, pair_of_fact}
-use Rattle.partitioned_memory.specs.Lists.{Ascends, Every}
+use Rattle.partitioned_memory.specs.Areas.{IsBounded, IsInside, area_cmp, block_in, bounds_of, by_area, is_marked, same_area}
+use Rattle.partitioned_memory.specs.Building.{are_blocks, are_sound_dirty, are_sound_facts, are_well, ascend, fits_width, has_count, is_block, is_counted_dirty, is_counted_fact, is_counted_value, is_sound_dirty, is_sound_fact, lies_inside}
+use Rattle.partitioned_memory.specs.Held.{PartsHeld, count_before, dirty_at, dirty_before, fact_at, fact_before, interval_of_dirty, interval_of_fact, is_counted, one_block, pair_of_dirty, pair_of_fact}
+use Rattle.partitioned_memory.specs.Lists.{Ascends, Every, Falls}
 use Rattle.partitioned_memory.specs.Pairs.{pair_before}
 use Rattle.partitioned_memory.specs.Well.{FitsWidth, HasCount, IsBlock, IsWell, IsWellDirty, IsWellFact, MayHold}
 use Rattle.partitioned_memory.proofs.ListLaws.{Every-weaker, Every-both}
+use Rattle.partitioned_memory.proofs.Cuts.{Falls-ascending}
 use Rattle.partitioned_memory.proofs.Kept.{fact_before-trans}
-use Rattle.partitioned_memory.proofs.Orders.{area_total, by_area-true, by_area-less, int_le-true, int_le-from, int_lt-true, int_lt-from, is_left-trans}
+use Rattle.partitioned_memory.proofs.Orders.{area_total, by_area-true, by_area-less, same_area-by_cmp, int_le-true, int_le-from, int_lt-true, int_lt-from, is_left-trans}
 use Rattle.partitioned_memory.proofs.DirtySpots.{Ascends-ranges}
 use Rattle.partitioned_memory.proofs.FactSpots.{Ascends-facts}
 
@@ -86,6 +91,96 @@ count_before-less c e h =
 count_before-trans : (c e f : Counted) → count_before c e ≡ true → count_before e f ≡ true → count_before c f ≡ true
 count_before-trans c e f h k =
     by_area-less (area_cmp (In c.region) (In f.region)) false (area_total.trans (In c.region) (In e.region) (In f.region) (count_before-less c e h) (count_before-less e f k))
+
+Every-top : {X : Type 0} (xs : List X) → Every (λ _. ⊤) xs
+Every-top [] = tt
+Every-top (x ∷ xs) = (tt, Every-top xs)
+
+pub counts-ascend : (blocks : List Counted) → ascend count_before blocks ≡ true → Ascends count_before blocks
+counts-ascend blocks e = Ascends-of count_before (λ _. ⊤) (λ c e f _ h k. count_before-trans c e f h k) blocks (Every-top blocks) e
+
+-- as a walk along the neighbours finds it
+each-neighbour : {X : Type 0} (before : X → X → Bool) (xs : List X) → ((k n : ℕ) (d : X) → n ≡ k + 1 → n < length xs → true ≡ before (get_or xs k d) (get_or xs n d)) → ascend before xs ≡ true
+each-neighbour before [] h = refl
+each-neighbour before (x ∷ []) h = refl
+each-neighbour before (x ∷ y ∷ ys) h =
+    both_true (before x y) (ascend before (y ∷ ys)) (sym (h 0 1 x refl (omega arith)))
+    (each-neighbour before (y ∷ ys) (λ k n d e l. h (suc k) (suc n) d (omega (arith, e)) (omega (arith, l))))
+
+no_more : (t : Bool) → (t && false) ≡ false
+no_more true = refl
+no_more false = refl
+
+some-neighbour : {X : Type 0} (before : X → X → Bool) (xs : List X) (k n : ℕ) → n ≡ k + 1 → n < length xs → ((d : X) → false ≡ before (get_or xs k d) (get_or xs n d)) → ascend before xs ≡ false
+some-neighbour before [] k n e l h = absurd (omega (arith, l))
+some-neighbour before (x ∷ []) k n e l h = absurd (omega (arith, e, l))
+some-neighbour before (x ∷ y ∷ ys) k zero e l h = absurd (omega (arith, e))
+some-neighbour before (x ∷ y ∷ ys) zero (suc n) e l h =
+    let next : n ≡ zero = omega (arith, e) in
+    let first : false ≡ before x y = subst (λ j. false ≡ before x (get_or (y ∷ ys) j x)) next (h x) in
+    ap (λ s. s && ascend before (y ∷ ys)) (sym first)
+some-neighbour before (x ∷ y ∷ ys) (suc k) (suc n) e l h =
+    ap (λ s. before x y && s) (some-neighbour before (y ∷ ys) k n (omega (arith, e)) (omega (arith, l)) h) ∙ no_more (before x y)
+
+pub sorted : {X : Type 0} (before : X → X → Bool) (xs : List X) (r : Bool) → IsAllAdjacentAnswer (λ x y b. b ≡ before x y) xs r → r ≡ ascend before xs
+sorted before xs true h = sym (each-neighbour before xs (λ k n d e l. subst (λ j. true ≡ before (get_or xs k d) (get_or xs j d)) (sym e) (h k d (omega (arith, e, l)))))
+sorted before xs false h = sym (some-neighbour before xs h.0 (h.0 + 1) refl h.1 h.2)
+
+-- ---- counts that ascend are found by halving
+
+pub Falls-counts : (e : Counted) (blocks : List Counted) → Ascends count_before blocks → Falls (λ c. count_before c e) blocks
+Falls-counts e blocks h = Falls-ascending count_before (λ c. count_before c e) blocks (λ c f k n. not_earlier c f k n) h
+  where
+    not_earlier : (c f : Counted) → count_before c f ≡ true → count_before c e ≡ false → count_before f e ≡ false
+    not_earlier c f k n =
+        elim (count_before f e) as (λ b. count_before f e ≡ b → b ≡ false) [
+          | true ↦ λ m. absurd (false≢true (sym n ∙ count_before-trans c f e k m))
+          | false ↦ λ m. refl
+        ] refl
+
+same-by_cmp : (r s : Region) → same_region r s ≡ is_eq (area_cmp (In r) (In s))
+unfolding same_area same_region
+same-by_cmp r s = same_area-by_cmp (In r) (In s)
+
+-- a region that comes before another is another, and so is one that comes after one that does not
+earlier-other : (c : Counted) (r : Region) → count_before c (one_block r) ≡ true → same_region c.region r ≡ false
+earlier-other c r h = same-by_cmp c.region r ∙ ap is_eq (count_before-less c (one_block r) h)
+
+later-other : (c e : Counted) (r : Region) → count_before c (one_block r) ≡ false → count_before c e ≡ true → same_region e.region r ≡ false
+later-other c e r n h =
+    elim (same_region e.region r) as (λ b. same_region e.region r ≡ b → b ≡ false) [
+      | true ↦ λ k. absurd (false≢true (sym n ∙ ap (λ s. by_area (area_cmp (In c.region) (In s)) false) (sym (same_region-is e.region r k)) ∙ h))
+      | false ↦ λ k. refl
+    ] refl
+
+others-only : (r : Region) (blocks : List Counted) → Every (λ e. same_region e.region r ≡ false) blocks → is_counted r blocks ≡ false
+others-only r [] h = refl
+others-only r (c ∷ cs) h = ap (λ s. s || is_counted r cs) h.0 ∙ others-only r cs h.1
+
+alone : (t : Bool) → (t || false) ≡ t
+alone true = refl
+alone false = refl
+
+is_there : Region → Option Counted → Bool
+is_there r None = false
+is_there r (Some c) = same_region c.region r
+
+counted-at : (r : Region) (blocks : List Counted) (n : ℕ) → Ascends count_before blocks → Every (λ c. count_before c (one_block r) ≡ true) (take n blocks) → Every (λ c. count_before c (one_block r) ≡ false) (drop n blocks) → is_counted r blocks ≡ is_there r (slice_get blocks n)
+unfolding is_there
+counted-at r [] n h front back = refl
+counted-at r (c ∷ cs) zero h front back =
+    ap (λ s. same_region c.region r || s) (others-only r cs (Every-weaker (λ e. count_before c e ≡ true) (λ e. same_region e.region r ≡ false) cs (λ e k. later-other c e r back.0 k) h.0))
+    ∙ alone (same_region c.region r)
+counted-at r (c ∷ cs) (suc n) h front back =
+    ap (λ s. s || is_counted r cs) (earlier-other c r front.0) ∙ counted-at r cs n h.1 front.1 back
+
+pub counted-there : (r : Region) (blocks : List Counted) (n : ℕ) (c : Counted) → Ascends count_before blocks → Every (λ e. count_before e (one_block r) ≡ true) (take n blocks) → Every (λ e. count_before e (one_block r) ≡ false) (drop n blocks) → slice_get blocks n ≡ Some c → is_counted r blocks ≡ same_region c.region r
+unfolding is_there
+counted-there r blocks n c h front back e = counted-at r blocks n h front back ∙ ap (is_there r) e
+
+pub counted-nowhere : (r : Region) (blocks : List Counted) (n : ℕ) → Ascends count_before blocks → Every (λ e. count_before e (one_block r) ≡ true) (take n blocks) → Every (λ e. count_before e (one_block r) ≡ false) (drop n blocks) → slice_get blocks n ≡ None → is_counted r blocks ≡ false
+unfolding is_there
+counted-nowhere r blocks n h front back e = counted-at r blocks n h front back ∙ ap (is_there r) e
 
 -- ---- by themselves
 
@@ -196,15 +291,14 @@ module _ {D : Type 0} (d : Values D) (h : PartsHeld D) where
   unfolding are_well
   well-of e =
       let F = are_sound_facts d h.blocks h.facts in
-      let R = ascend dirty_before h.dirty && (list_all is_sound_dirty h.dirty && list_all (is_counted_dirty h.blocks) h.dirty) in
-      let B = ascend count_before h.blocks && list_all is_block h.blocks in
-      let (facts, rest) = both F (R && B) e in
-      let (dirty, blocks) = both R B rest in
+      let R = are_sound_dirty h.blocks h.dirty in
+      let (blocks, rest) = both (are_blocks h.blocks) (F && R) e in
+      let (facts, dirty) = both F R rest in
+      let (blocks_order, blocks_each) = both (ascend count_before h.blocks) (list_all is_block h.blocks) blocks in
       let (facts_order, facts_each) = both (ascend fact_before h.facts) (list_all (is_sound_fact d) h.facts && list_all (is_counted_fact d h.blocks) h.facts) facts in
       let (facts_sound, facts_counted) = both (list_all (is_sound_fact d) h.facts) (list_all (is_counted_fact d h.blocks) h.facts) facts_each in
       let (dirty_order, dirty_each) = both (ascend dirty_before h.dirty) (list_all is_sound_dirty h.dirty && list_all (is_counted_dirty h.blocks) h.dirty) dirty in
       let (dirty_sound, dirty_counted) = both (list_all is_sound_dirty h.dirty) (list_all (is_counted_dirty h.blocks) h.dirty) dirty_each in
-      let (blocks_order, blocks_each) = both (ascend count_before h.blocks) (list_all is_block h.blocks) blocks in
       let well_facts : Every (IsWellFact d h.blocks) h.facts =
       Every-both (λ f. is_sound_fact d f ≡ true) (λ f. is_counted_fact d h.blocks f ≡ true) (IsWellFact d h.blocks) h.facts (fact-of d h.blocks)
       (Every-all (is_sound_fact d) (λ f. is_sound_fact d f ≡ true) h.facts (λ f t. t) facts_sound)
@@ -214,11 +308,11 @@ module _ {D : Type 0} (d : Values D) (h : PartsHeld D) where
       (Every-all is_sound_dirty (λ r. is_sound_dirty r ≡ true) h.dirty (λ r t. t) dirty_sound)
       (Every-all (is_counted_dirty h.blocks) (λ r. is_counted_dirty h.blocks r ≡ true) h.dirty (λ r t. t) dirty_counted) in
       record {
-        facts_ascend = Ascends-of fact_before (IsWellFact d h.blocks) (λ f g k p. fact_before-trans f g k) h.facts well_facts facts_order;
+        facts_ascend = Ascends-of fact_before (IsWellFact d h.blocks) (λ f g k w. fact_before-trans f g k) h.facts well_facts facts_order;
         facts = well_facts;
         dirty_ascends = Ascends-of dirty_before (λ r. IsWellDirty h.blocks (interval_of_dirty r)) (dirty_before-trans h.blocks) h.dirty well_dirty dirty_order;
         dirty = well_dirty;
-        blocks_ascend = Ascends-of count_before IsBlock (λ c k f p. count_before-trans c k f) h.blocks (Every-all is_block IsBlock h.blocks (λ c t. from_not (has_one_base c.region) t) blocks_each) blocks_order;
+        blocks_ascend = counts-ascend h.blocks blocks_order;
         blocks = Every-all is_block IsBlock h.blocks (λ c t. from_not (has_one_base c.region) t) blocks_each;
       }
 
@@ -226,20 +320,19 @@ module _ {D : Type 0} (d : Values D) (h : PartsHeld D) where
   unfolding are_well
   are-well w =
       let F = are_sound_facts d h.blocks h.facts in
-      let R = ascend dirty_before h.dirty && (list_all is_sound_dirty h.dirty && list_all (is_counted_dirty h.blocks) h.dirty) in
-      let B = ascend count_before h.blocks && list_all is_block h.blocks in
-      both_true F (R && B)
+      let R = are_sound_dirty h.blocks h.dirty in
+      both_true (are_blocks h.blocks) (F && R)
+      (both_true (ascend count_before h.blocks) (list_all is_block h.blocks) (ascend-of count_before h.blocks w.blocks_ascend)
+      (all-Every is_block IsBlock h.blocks (λ c t. to_not (has_one_base c.region) t) w.blocks))
+      (both_true F R
       (both_true (ascend fact_before h.facts) (list_all (is_sound_fact d) h.facts && list_all (is_counted_fact d h.blocks) h.facts) (ascend-of fact_before h.facts w.facts_ascend)
       (both_true (list_all (is_sound_fact d) h.facts) (list_all (is_counted_fact d h.blocks) h.facts)
       (all-Every (is_sound_fact d) (IsWellFact d h.blocks) h.facts (sound-fact d h.blocks) w.facts)
       (all-Every (is_counted_fact d h.blocks) (IsWellFact d h.blocks) h.facts (counted-fact d h.blocks) w.facts)))
-      (both_true R B
       (both_true (ascend dirty_before h.dirty) (list_all is_sound_dirty h.dirty && list_all (is_counted_dirty h.blocks) h.dirty) (ascend-of dirty_before h.dirty w.dirty_ascends)
       (both_true (list_all is_sound_dirty h.dirty) (list_all (is_counted_dirty h.blocks) h.dirty)
       (all-Every is_sound_dirty (λ r. IsWellDirty h.blocks (interval_of_dirty r)) h.dirty (sound-dirty h.blocks) w.dirty)
-      (all-Every (is_counted_dirty h.blocks) (λ r. IsWellDirty h.blocks (interval_of_dirty r)) h.dirty (counted-dirty h.blocks) w.dirty)))
-      (both_true (ascend count_before h.blocks) (list_all is_block h.blocks) (ascend-of count_before h.blocks w.blocks_ascend)
-      (all-Every is_block IsBlock h.blocks (λ c t. to_not (has_one_base c.region) t) w.blocks)))
+      (all-Every (is_counted_dirty h.blocks) (λ r. IsWellDirty h.blocks (interval_of_dirty r)) h.dirty (counted-dirty h.blocks) w.dirty))))
 
 -- ---- by spots
 

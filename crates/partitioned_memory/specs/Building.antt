@@ -34,12 +34,20 @@ has_count blocks (Some r) = is_counted r blocks
 abbrev pub is_block : Counted → Bool
 is_block c = not (has_one_base c.region)
 
+-- counts ascend, so that each region is counted once, and are of blocks
+abbrev pub are_blocks : List Counted → Bool
+are_blocks blocks = ascend count_before blocks && list_all is_block blocks
+
 -- a dirty range by itself: it has a byte, and lies in the image or in a zeroed block
 abbrev pub is_sound_dirty : Dirty → Bool
 is_sound_dirty r = int_lt (interval_of_dirty r).low (interval_of_dirty r).end && (lies_inside (interval_of_dirty r) && is_marked r.area)
 
 abbrev pub is_counted_dirty : List Counted → Dirty → Bool
 is_counted_dirty blocks r = has_count blocks (block_in r.area)
+
+-- dirty ranges ascend and neither share a byte nor touch, and their blocks are counted
+abbrev pub are_sound_dirty : List Counted → List Dirty → Bool
+are_sound_dirty blocks dirty = ascend dirty_before dirty && (list_all is_sound_dirty dirty && list_all (is_counted_dirty blocks) dirty)
 
 module _ {D : Type 0} (d : Values D) where
   -- the number that a value is, where it is one, fits a width
@@ -61,13 +69,10 @@ module _ {D : Type 0} (d : Values D) where
   abbrev pub is_counted_fact : List Counted → Fact D → Bool
   is_counted_fact blocks f = has_count blocks (block_in f.area) && is_counted_value blocks f.value
 
+  -- facts ascend and share no byte, and the blocks that they name are counted
   abbrev pub are_sound_facts : List Counted → List (Fact D) → Bool
   are_sound_facts blocks facts = ascend fact_before facts && (list_all is_sound_fact facts && list_all (is_counted_fact blocks) facts)
 
-  -- facts ascend and share no byte, dirty ranges ascend and neither share a byte nor touch, each block region is counted once, and
-  -- each that is named is counted
+  -- the lists are those of parts
   unfoldable pub are_well : PartsHeld D → Bool
-  are_well h =
-      are_sound_facts h.blocks h.facts
-      && ((ascend dirty_before h.dirty && (list_all is_sound_dirty h.dirty && list_all (is_counted_dirty h.blocks) h.dirty))
-      && (ascend count_before h.blocks && list_all is_block h.blocks))
+  are_well h = are_blocks h.blocks && (are_sound_facts h.blocks h.facts && are_sound_dirty h.blocks h.dirty)

@@ -1,13 +1,15 @@
-ghost use Rattle.std.specs.Prelude.{◌≡◌, ◌&&◌};
+ghost use Rattle.std.specs.Prelude.{◌≡◌, IsTrue};
 ghost use Rattle.std.specs.List.{list_all};
 ghost use Rattle.domain_laws.specs.Made.{values_of};
 ghost use Rattle.domain_laws.specs.Reached.{named};
 ghost use Rattle.partitioned_memory.specs.Areas.{block_in};
-ghost use Rattle.partitioned_memory.specs.Building.{are_sound_facts, are_well, ascend, fits_width, has_count, is_block, is_counted_dirty, is_counted_fact, is_counted_value, is_sound_dirty, is_sound_fact, lies_inside, may_hold};
-ghost use Rattle.partitioned_memory.specs.Held.{count_before, dirty_before, fact_before};
+ghost use Rattle.partitioned_memory.specs.Building.{are_sound_dirty, are_sound_facts, are_well, ascend, fits_width, has_count, is_block, is_counted_dirty, is_counted_fact, is_counted_value, is_sound_dirty, is_sound_fact, lies_inside, may_hold};
+ghost use Rattle.partitioned_memory.specs.Held.{dirty_before, fact_before};
+ghost use Rattle.partitioned_memory.specs.Well.{IsWell};
 
 use crate::area::{Area, Interval};
 use crate::count_list::is_counted;
+use crate::counts::Counts;
 use crate::fact::{Counted, Dirty, Fact};
 use address_regions::Region;
 use bit_words::Width;
@@ -97,10 +99,10 @@ impl<D: Domain> Fact<D> {
         self.interval().is_before(other.interval())
     }
 
-    fn is_counted(&self, blocks: &[Counted]) -> bool
-        ensures { result ≡ is_counted_fact (values_of D.Domain.own D.eq) blocks.now self.now }
+    fn is_counted(&self, counts: &Counts) -> bool
+        ensures { result ≡ is_counted_fact (values_of D.Domain.own D.eq) counts.now self.now }
     {
-        has_count(blocks, block_in(self.area)) && is_counted_value(blocks, self.value)
+        counts.has(block_in(self.area)) && counts.has(named(self.value))
     }
 }
 
@@ -120,10 +122,10 @@ impl Dirty {
         self.interval().is_left(other.interval())
     }
 
-    fn is_counted(self, blocks: &[Counted]) -> bool
-        ensures { result ≡ is_counted_dirty blocks.now self }
+    fn is_counted(self, counts: &Counts) -> bool
+        ensures { result ≡ is_counted_dirty counts.now self }
     {
-        has_count(blocks, block_in(self.area))
+        counts.has(block_in(self.area))
     }
 }
 
@@ -134,85 +136,71 @@ impl Counted {
     {
         !self.region.has_one_base()
     }
-
-    /// Whether its region comes before another's.
-    pub fn comes_before(self, other: Counted) -> bool
-        ensures { result ≡ count_before self other }
-    {
-        self.is_before(other)
-    }
 }
 
 fn facts_ascend<D: Domain>(facts: &[Fact<D>]) -> bool
     ensures { result ≡ ascend fact_before facts.now }
 {
-    let mut left = facts;
-    while let [first, others @ ..] = left {
-        if let Some(next) = others.first()
-            && !first.is_before(next)
-        {
-            return false;
-        }
-        left = others;
-    }
-    true
+    facts.is_sorted_by(|f, g| f.is_before(g))
 }
 
 fn dirty_ascends(dirty: &[Dirty]) -> bool
     ensures { result ≡ ascend dirty_before dirty.now }
 {
-    let mut left = dirty;
-    while let [first, others @ ..] = left {
-        if let Some(next) = others.first()
-            && !first.comes_before(*next)
-        {
-            return false;
-        }
-        left = others;
-    }
-    true
+    dirty.is_sorted_by(|r, s| r.comes_before(*s))
 }
 
-fn counts_ascend(blocks: &[Counted]) -> bool
-    ensures { result ≡ ascend count_before blocks.now }
+fn facts_are_sound<D: Domain>(facts: &[Fact<D>]) -> bool
+    ensures { result ≡ list_all (is_sound_fact (values_of D.Domain.own D.eq)) facts.now }
 {
-    let mut left = blocks;
-    while let [first, others @ ..] = left {
-        if let Some(next) = others.first()
-            && !first.is_before(*next)
-        {
-            return false;
-        }
-        left = others;
-    }
-    true
+    facts.iter().all(|f| f.is_sound())
 }
 
-fn are_sound_facts<D: Domain>(blocks: &[Counted], facts: &[Fact<D>]) -> bool
-    ensures { result ≡ are_sound_facts (values_of D.Domain.own D.eq) blocks.now facts.now }
+fn facts_are_counted<D: Domain>(counts: &Counts, facts: &[Fact<D>]) -> bool
+    ensures { result ≡ list_all (is_counted_fact (values_of D.Domain.own D.eq) counts.now) facts.now }
 {
-    facts_ascend(facts)
-        && (facts.iter().all(|f| f.is_sound()) && facts.iter().all(|f| f.is_counted(blocks)))
+    facts.iter().all(|f| f.is_counted(counts))
 }
 
-fn are_sound_dirty(blocks: &[Counted], dirty: &[Dirty]) -> bool
-    ensures { result ≡ (ascend dirty_before dirty.now && (list_all is_sound_dirty dirty.now && list_all (is_counted_dirty blocks.now) dirty.now)) }
+fn are_sound_facts<D: Domain>(counts: &Counts, facts: &[Fact<D>]) -> bool
+    ensures { result ≡ are_sound_facts (values_of D.Domain.own D.eq) counts.now facts.now }
 {
-    dirty_ascends(dirty)
-        && (dirty.iter().all(|r| r.is_sound()) && dirty.iter().all(|r| r.is_counted(blocks)))
+    facts_ascend(facts) && (facts_are_sound(facts) && facts_are_counted(counts, facts))
 }
 
-fn are_blocks(blocks: &[Counted]) -> bool
-    ensures { result ≡ (ascend count_before blocks.now && list_all is_block blocks.now) }
+fn dirty_are_sound(dirty: &[Dirty]) -> bool
+    ensures { result ≡ list_all is_sound_dirty dirty.now }
 {
-    counts_ascend(blocks) && blocks.iter().all(|c| c.is_block())
+    dirty.iter().all(|r| r.is_sound())
+}
+
+fn dirty_are_counted(counts: &Counts, dirty: &[Dirty]) -> bool
+    ensures { result ≡ list_all (is_counted_dirty counts.now) dirty.now }
+{
+    dirty.iter().all(|r| r.is_counted(counts))
+}
+
+fn are_sound_dirty(counts: &Counts, dirty: &[Dirty]) -> bool
+    ensures { result ≡ are_sound_dirty counts.now dirty.now }
+{
+    dirty_ascends(dirty) && (dirty_are_sound(dirty) && dirty_are_counted(counts, dirty))
+}
+
+fn are_of_blocks(blocks: &[Counted]) -> bool
+    ensures { result ≡ list_all is_block blocks.now }
+{
+    blocks.iter().all(|c| c.is_block())
 }
 
 /// Whether parts may be built of these lists: each ascends, facts share no byte and dirty ranges neither share a byte nor touch,
 /// each fact and each dirty range is sound, each count is of a block, and each block region that is named is counted.
 #[tactic(auto, unfolding(crate::specs::Building::are_well))]
 pub fn are_well<D: Domain>(facts: &[Fact<D>], dirty: &[Dirty], blocks: &[Counted]) -> bool
-    ensures { result ≡ are_well (values_of D.Domain.own D.eq) (record { facts = facts.now; dirty = dirty.now; blocks = blocks.now }) }
+    ensures value { result ≡ are_well (values_of D.Domain.own D.eq) (record { facts = facts.now; dirty = dirty.now; blocks = blocks.now }) }
+    ensures well { IsTrue result → IsWell (values_of D.Domain.own D.eq) (record { facts = facts.now; dirty = dirty.now; blocks = blocks.now }) }
 {
-    are_sound_facts(blocks, facts) && (are_sound_dirty(blocks, dirty) && are_blocks(blocks))
+    let Some(counts) = Counts::of(blocks) else {
+        return false;
+    };
+    are_of_blocks(blocks) && (are_sound_facts(&counts, facts) && are_sound_dirty(&counts, dirty))
 }

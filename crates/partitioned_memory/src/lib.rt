@@ -6,6 +6,7 @@
 mod area;
 mod building;
 mod count_list;
+mod counts;
 mod dirty_list;
 mod fact;
 mod fact_list;

@@ -1,11 +1,10 @@
-ghost use Rattle.std.specs.Prelude.{◌≡◌, ◌++◌, IfOk, OnOk, map};
+ghost use Rattle.std.specs.Prelude.{◌≡◌, IfOk, map};
 ghost use Rattle.domain_laws.specs.Made.{values_of};
-ghost use Rattle.partitioned_memory.specs.Held.{dirty_at, pair_of_dirty, pair_of_fact};
-ghost use Rattle.partitioned_memory.specs.Leaves.{pairs_in, pieces};
+ghost use Rattle.partitioned_memory.specs.Held.{pair_of_dirty, pair_of_fact};
 ghost use Rattle.partitioned_memory.specs.Well.{IsWell};
 
+use crate::dirty_list::ranges_of;
 use crate::fact::{Counted, Dirty, Fact, Held, Spot};
-use crate::leaf::Leaf;
 use crate::parts::Parts;
 use crate::spots::Spots;
 use bit_words::NoMemory;
@@ -24,15 +23,6 @@ fn dirty_pairs(alloc: Global, dirty: &[Dirty]) -> Result<Vec<(Spot, i64)>, NoMem
     Ok(dirty.iter().map(|r| r.pair()).collect(alloc)?)
 }
 
-fn push_dirty(all: &mut Vec<Dirty>, leaf: &Leaf<i64>) -> Result<(), NoMemory>
-    ensures { OnOk result (all.new.items ≡ all.old.items ++ map dirty_at leaf.now.pairs.items) }
-{
-    for pair in &leaf.pairs {
-        all.push(Dirty::at(pair))?;
-    }
-    Ok(())
-}
-
 impl<D: Domain> Parts<D> {
     /// The parts with exactly these lists, each of which ascends. Refuses want of memory alone.
     pub fn build(
@@ -44,28 +34,26 @@ impl<D: Domain> Parts<D> {
         requires { IsWell (values_of D.Domain.own D.eq) (record { facts = facts.now; dirty = dirty.now; blocks = blocks.now }) }
         ensures { IfOk result (λ parts. parts ≡ record { facts = facts.now; dirty = dirty.now; blocks = blocks.now }) }
     {
+        let held = fact_pairs(alloc, facts)?;
+        let sizes = dirty_pairs(alloc, dirty)?;
         Ok(Parts {
-            facts: Spots::build(alloc, &fact_pairs(alloc, facts)?)?,
-            dirty: Spots::build(alloc, &dirty_pairs(alloc, dirty)?)?,
+            facts: Spots::build(alloc, &held)?,
+            dirty: Spots::build(alloc, &sizes)?,
             blocks: Vec::from_slice(alloc, blocks)?,
         })
     }
 
     /// The dirty ranges again, in order.
-    pub fn copy_dirty(&self, alloc: Global) -> Result<Vec<Dirty>, NoMemory>
+    pub fn copy_dirty(&self) -> Result<Vec<Dirty>, NoMemory>
         ensures { IfOk result (λ copy. copy.items ≡ self.now.dirty) }
     {
-        let mut all = Vec::new(alloc);
-        for leaf in self.dirty.leaves() {
-            push_dirty(&mut all, leaf)?;
-        }
-        Ok(all)
+        ranges_of(self.alloc(), &self.dirty)
     }
 
     /// The counts of blocks again, in order.
-    pub fn copy_blocks(&self, alloc: Global) -> Result<Vec<Counted>, NoMemory>
+    pub fn copy_blocks(&self) -> Result<Vec<Counted>, NoMemory>
         ensures { IfOk result (λ copy. copy.items ≡ self.now.blocks) }
     {
-        Ok(Vec::from_slice(alloc, &self.blocks)?)
+        Ok(Vec::from_slice(self.alloc(), &self.blocks)?)
     }
 }
