@@ -43,7 +43,7 @@ fn count_again(alloc: Global, blocks: &[Counted], region: Region) -> Result<Vec<
 fn place_of_count(blocks: &[Counted], first: Counted) -> usize
     ensures { result ≡ length (take_while (λ c. count_before c first) blocks.now) }
 {
-    blocks.iter().take_while(|c| c.is_before(first)).count()
+    blocks.iter().take_while(|c| c.comes_before(first)).count()
 }
 
 fn count_first(alloc: Global, blocks: &[Counted], region: Region) -> Result<Vec<Counted>, NoMemory>

@@ -1,4 +1,4 @@
-ghost use Rattle.std.specs.Prelude.{◌≡◌, IfOk, map};
+ghost use Rattle.std.specs.Prelude.{◌≡◌, ◌++◌, IfOk, map};
 ghost use Rattle.std.specs.List.{list_any, list_all};
 ghost use Rattle.partitioned_memory.specs.Areas.{IsBounded, has_byte};
 ghost use Rattle.partitioned_memory.specs.Lists.{Ascends, Every};
@@ -11,6 +11,7 @@ use crate::leaf::Leaf;
 use crate::spots::Spots;
 use crate::stretches::Touching;
 use bit_words::NoMemory;
+use std::alloc::Global;
 use std::sync::Arc;
 
 fn is_dirty_among(leaf: &Leaf<i64>, area: Area, o: i64) -> bool
@@ -111,4 +112,24 @@ pub(crate) fn hold_dirty(ranges: &Spots<i64>, others: &Spots<i64>) -> bool
     ensures { result ≡ list_all (lies_in (map dirty_at ranges.now)) (map dirty_at others.now) }
 {
     hold_leaves(ranges, others.leaves())
+}
+
+fn push_ranges(all: &mut Vec<Dirty>, pairs: &[(Spot, i64)]) -> Result<(), NoMemory>
+    ensures { IfOk result (λ _. all.new.items ≡ all.old.items ++ map dirty_at pairs.now) }
+{
+    for pair in pairs {
+        all.push(Dirty::at(pair))?;
+    }
+    Ok(())
+}
+
+// The dirty ranges again, in one list.
+pub(crate) fn ranges_of(alloc: Global, ranges: &Spots<i64>) -> Result<Vec<Dirty>, NoMemory>
+    ensures { IfOk result (λ all. all.items ≡ map dirty_at ranges.now) }
+{
+    let mut all = Vec::new(alloc);
+    for leaf in ranges.leaves() {
+        push_ranges(&mut all, &leaf.pairs)?;
+    }
+    Ok(all)
 }

@@ -178,7 +178,7 @@ impl Counted {
 
     /// Whether its region comes before another's.
     #[tactic(auto, unfolding(crate::specs::Areas::area_cmp))]
-    pub(crate) fn is_before(self, other: Counted) -> bool
+    pub fn comes_before(self, other: Counted) -> bool
         ensures { result ≡ count_before self other }
     {
         match Area::In(self.region).cmp(&Area::In(other.region)) {

@@ -5,6 +5,8 @@ ghost use Rattle.domain_laws.specs.Reached.{named};
 ghost use Rattle.partitioned_memory.specs.Areas.{IsInside, block_in, interval_at, interval_to};
 ghost use Rattle.partitioned_memory.specs.Well.{FitsWidth, HasCount, MayHold};
 
+mod built;
+
 use super::*;
 use crate::count_list::is_counted;
 use crate::fact::Spot;
@@ -229,17 +231,15 @@ fn after<D: Domain>(
     Ok(parts)
 }
 
-// The three lists after some calls.
-fn leaves(
+// The three lists of parts.
+fn holds(
     rt: &impl Abort,
-    alloc: Global,
+    parts: &Parts<FlatNumbers>,
     name: &str,
-    steps: &[Step<FlatNumbers>],
     facts: &[Fact<FlatNumbers>],
     dirty: &[Dirty],
     blocks: &[Counted],
-) -> Result<(), Fail> {
-    let parts = after(rt, alloc, steps, name)?;
+) {
     for (i, f) in facts.iter().enumerate() {
         assert!(rt; parts.fact(i) == Some(*f), "fact {i} of {name}");
     }
@@ -255,6 +255,20 @@ fn leaves(
         assert!(rt; parts.counted(i) == Some(*c), "count {i} of {name}");
     }
     assert!(rt; parts.counted(blocks.len()).is_none(), "counts of {name}");
+}
+
+// The three lists after some calls.
+fn leaves(
+    rt: &impl Abort,
+    alloc: Global,
+    name: &str,
+    steps: &[Step<FlatNumbers>],
+    facts: &[Fact<FlatNumbers>],
+    dirty: &[Dirty],
+    blocks: &[Counted],
+) -> Result<(), Fail> {
+    let parts = after(rt, alloc, steps, name)?;
+    holds(rt, &parts, name, facts, dirty, blocks);
     Ok(())
 }
 

@@ -1,0 +1,8 @@
+use Rattle.std.proofs.Common.{rules}
+use Rattle.std.proofs.lemmas.Fn.{always_returns_same}
+use Rattle.partitioned_memory.specs.Held.{count_before}
+use Rattle.partitioned_memory.proofs.BuiltParts.{sorted}
+use Rattle.partitioned_memory.proofs.counts.counts_ascend.Goals as goal
+
+pub returns : goal.returns
+returns c = sorted count_before _ _ (c.is_sorted_by.ensures.cases count_before (always_returns_same _ _ _ (λ a r f k. search rules)))
