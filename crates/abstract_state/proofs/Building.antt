@@ -1,8 +1,8 @@
 -- States of plain lists: what is built is well, and has the lists of which it was built.
-use Rattle.std.proofs.Common.{◌≡◌, ℕ, ◌<◌, ◌^◌, Bool, true, false, List, [], ◌∷◌, Option, Some, None, refl, sym, ap, ◌∙◌, subst, arith, ℤ, pos}
+use Rattle.std.proofs.Common.{◌≡◌, ℕ, ◌<◌, ◌^◌, Bool, true, false, List, [], ◌∷◌, Option, Some, None, refl, sym, ap, subst, arith, pos}
 use Rattle.std.specs.Prelude.{◌&&◌, nat_lt, option_and_then, if◌then◌else◌}
 use Rattle.std.specs.List.{list_all}
-use Rattle.std.specs.Option.{ForSome, option_map_or}
+use Rattle.std.specs.Option.{ForSome}
 use Rattle.std.proofs.lemmas.Bool.Decides.{nat_tests}
 use Rattle.bit_words.specs.declared.width.Width.TheVariants.{B32}
 use Rattle.memory_map.specs.Image.{Image}
@@ -15,10 +15,10 @@ use Rattle.domain_laws.specs.Reached.{named}
 use Rattle.partitioned_memory.specs.declared.area.Area.TheVariants.{In}
 use Rattle.partitioned_memory.specs.declared.fact.Counted.{Counted}
 use Rattle.partitioned_memory.specs.Areas.{interval_at}
-use Rattle.partitioned_memory.specs.Building.{are_well, fits_width, is_counted_value, lies_inside, may_hold}
+use Rattle.partitioned_memory.specs.Building.{are_well, fits_width, is_counted_value, may_hold}
 use Rattle.partitioned_memory.specs.Lists.{Every}
 use Rattle.partitioned_memory.specs.Well.{IsWell, MayHold}
-use Rattle.partitioned_memory.proofs.BuiltParts.{Every-all, all-Every, are-well, count-of, fits-of, fits-width, has-count, inside-of, lies-inside, well-of}
+use Rattle.partitioned_memory.proofs.BuiltParts.{Every-all, all-Every, are-well, count-of, fits-of, fits-width, has-count, lies-inside, well-of}
 use Rattle.abstract_state.specs.declared.truth.Truth.{Truth}
 use Rattle.abstract_state.specs.declared.flags.Truths.{Truths}
 use Rattle.abstract_state.specs.declared.note.Note.{Note}
@@ -26,7 +26,7 @@ use Rattle.abstract_state.specs.declared.note.Note.TheVariants.{Register, Word}
 use Rattle.abstract_state.specs.declared.plain.StateData.{StateData}
 use Rattle.abstract_state.specs.Notes.{IsWellNote}
 use Rattle.abstract_state.specs.State.{AreSmall, IsSmall, IsWellState, Known}
-use Rattle.abstract_state.specs.Building.{HasImageBytes, built, is_dirty_of, is_fact_of, is_note, is_small, is_state, is_well_note, parts_of, plain_of, registers_in, registers_of, truths_in, truths_of}
+use Rattle.abstract_state.specs.Building.{HasImageBytes, built, is_dirty_of, is_fact_of, is_note, is_small, is_state, parts_of, plain_of, registers_in, registers_of, truths_in, truths_of}
 use Rattle.abstract_state.specs.Laws.{BuiltStatesArePlain, PlainStatesAreBuilt}
 use Rattle.abstract_state.proofs.Keeping.{each-register}
 

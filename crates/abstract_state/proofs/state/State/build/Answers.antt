@@ -3,13 +3,13 @@ use Rattle.std.proofs.Common.{◌≡◌, true, Some, rules, sym, ap, ◌∙◌, 
 use Rattle.domain_laws.specs.Made.{values_of}
 use Rattle.partitioned_memory.specs.Held.{PartsHeld}
 use Rattle.partitioned_memory.specs.Well.{IsWell}
-use Rattle.abstract_state.specs.State.{IsWellState, Known}
+use Rattle.abstract_state.specs.State.{IsWellState}
 use Rattle.abstract_state.specs.Building.{parts_of, registers_of}
 use Rattle.abstract_state.proofs.Building.{built-well, may-build}
 use Rattle.abstract_state.proofs.state.State.build.Goals as goal
 
 pub build-requires-after_bounds : goal.build-requires-after_bounds
-build-requires-after_bounds g c =
+build-requires-after_bounds g c = λ κs within.
     let d = values_of g.D.Domain g.D.PartialEq.eq in
     let passed : c.is_state.result ≡ true = search rules in
     let given : PartsHeld g.row.D.Denot = record { facts = c.as_slice-3.result.now; dirty = c.as_slice-4.result.now; blocks = c.as_slice-5.result.now } in
