@@ -1,8 +1,8 @@
 -- States of plain lists: what is built is well, and has the lists of which it was built.
-use Rattle.std.proofs.Common.{◌≡◌, ℕ, ◌<◌, ◌^◌, Bool, true, false, List, [], ◌∷◌, Option, Some, None, refl, sym, ap, ◌∙◌, subst, arith, ℤ, pos}
+use Rattle.std.proofs.Common.{◌≡◌, ℕ, ◌<◌, ◌^◌, Bool, true, false, List, [], ◌∷◌, Option, Some, None, refl, sym, ap, subst, arith, pos}
 use Rattle.std.specs.Prelude.{◌&&◌, nat_lt, option_and_then, if◌then◌else◌}
 use Rattle.std.specs.List.{list_all}
-use Rattle.std.specs.Option.{ForSome, option_map_or}
+use Rattle.std.specs.Option.{ForSome}
 use Rattle.std.proofs.lemmas.Bool.Decides.{nat_tests}
 use Rattle.bit_words.specs.declared.width.Width.TheVariants.{B32}
 use Rattle.memory_map.specs.Image.{Image}
@@ -15,10 +15,10 @@ use Rattle.domain_laws.specs.Reached.{named}
 use Rattle.partitioned_memory.specs.declared.area.Area.TheVariants.{In}
 use Rattle.partitioned_memory.specs.declared.fact.Counted.{Counted}
 use Rattle.partitioned_memory.specs.Areas.{interval_at}
-use Rattle.partitioned_memory.specs.Building.{are_well, fits_width, is_counted_value, lies_inside, may_hold}
+use Rattle.partitioned_memory.specs.Building.{are_well, fits_width, is_counted_value, may_hold}
 use Rattle.partitioned_memory.specs.Lists.{Every}
 use Rattle.partitioned_memory.specs.Well.{IsWell, MayHold}
-use Rattle.partitioned_memory.proofs.BuiltParts.{Every-all, all-Every, are-well, count-of, fits-of, fits-width, has-count, inside-of, lies-inside, well-of}
+use Rattle.partitioned_memory.proofs.BuiltParts.{Every-all, all-Every, are-well, count-of, fits-of, fits-width, has-count, lies-inside, well-of}
 use Rattle.abstract_state.specs.declared.truth.Truth.{Truth}
 use Rattle.abstract_state.specs.declared.flags.Truths.{Truths}
 use Rattle.abstract_state.specs.declared.note.Note.{Note}
@@ -26,7 +26,8 @@ use Rattle.abstract_state.specs.declared.note.Note.TheVariants.{Register, Word}
 use Rattle.abstract_state.specs.declared.plain.StateData.{StateData}
 use Rattle.abstract_state.specs.Notes.{IsWellNote}
 use Rattle.abstract_state.specs.State.{AreSmall, IsSmall, IsWellState, Known}
-use Rattle.abstract_state.specs.Building.{BuiltStatesArePlain, HasImageBytes, PlainStatesAreBuilt, built, is_dirty_of, is_fact_of, is_note, is_small, is_state, is_well_note, parts_of, plain_of, registers_in, registers_of, truths_in, truths_of}
+use Rattle.abstract_state.specs.Building.{HasImageBytes, built, is_dirty_of, is_fact_of, is_note, is_small, is_state, parts_of, plain_of, registers_in, registers_of, truths_in, truths_of}
+use Rattle.abstract_state.specs.Laws.{BuiltStatesArePlain, PlainStatesAreBuilt}
 use Rattle.abstract_state.proofs.Keeping.{each-register}
 
 both : (s t : Bool) → (s && t) ≡ true → (s ≡ true) × (t ≡ true)
@@ -163,7 +164,7 @@ module _ {D : Type 0} (d : Values D) where
       let made : Known D = record { regs = g; flags = t; note = s.note; parts = parts_of s } in
       let regs : registers_in g ≡ s.regs = registers-back s.regs g r in
       let flags : truths_in t ≡ s.flags = truths-back s.flags t f in
-      let plain : plain_of made ≡ s = cc in
+      let plain : plain_of made ≡ s = λ i. record { regs = regs i; flags = flags i; note = s.note; facts = s.facts; dirty = s.dirty; blocks = s.blocks } in
       subst (λ (x : Known D). (plain_of x ≡ s) × HasImageBytes image x) c.1 (plain, record { facts = m.facts; dirty = m.dirty })
 
   registers_by : (image : Image) (s : StateData D) (k : Known D) (g : Option (Regs D)) → registers_of s.regs ≡ g

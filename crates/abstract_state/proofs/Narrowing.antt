@@ -9,7 +9,7 @@ use Rattle.std.proofs.lemmas.Bool.Decides.{nat_tests}
 use Rattle.std.proofs.lemmas.List.Elements.{All-get_or, All-head, All-tail}
 use Rattle.std.proofs.lemmas.Option.{slice_get_cases}
 use Rattle.std.proofs.lemmas.Grind.{common_steps}
-use Rattle.flow_log.proofs.Members.{Contains-here, Contains-later, Contains-none, Contains-cases}
+use Rattle.flow_log.proofs.Members.{Contains-here, Contains-later, Contains-map, Contains-none, Contains-cases}
 use Rattle.bit_words.specs.declared.width.Width.TheVariants.{B32}
 use Rattle.bit_words.specs.Width.{cut}
 use Rattle.bit_words.proofs.FlagLaws.{difference-below, difference-equal}
@@ -61,14 +61,6 @@ every-member P x (y ∷ ys) h k =
 range-every : (P : ℕ → Type 0) (a n : ℕ) → ((x : ℕ) → x < a + n → P x) → Every P (range_with_len a n)
 range-every P a zero h = tt
 range-every P a (suc n) h = (h a (omega arith), range-every P (a + 1) n (λ x less. h x (omega arith)))
-
-member-map : {X Y : Type 0} (f : X → Y) (x : X) (xs : List X) → Contains xs x → Contains (map f xs) (f x)
-member-map {X} f x [] k = absurd (Contains-none x k)
-member-map {X} f x (y ∷ ys) k =
-    elim (Contains-cases y x ys k) [
-      | inl e ↦ subst (λ (z : X). Contains (f y ∷ map f ys) (f z)) e (Contains-here (f y) (map f ys))
-      | inr later ↦ Contains-later (f y) (f x) (map f ys) (member-map f x ys later)
-    ]
 
 member-range : (x a n : ℕ) → a ≤ x → x < a + n → Contains (range_with_len a n) x
 member-range x a zero low high = absurd (omega arith)
@@ -182,7 +174,7 @@ module _ {D : Type 0} (d : Values D) (l : IsLawful d) where
   at_most-stands : (k : ℕ) (v : D) (c x : ℕ) (p : Places) → IsValid p → x ≤ c → d.stands v p x → StandsIn p x (at_most d k v c)
   at_most-stands k v c x p valid less h =
       elim (nat_le (c + 1) k) as (λ b. StandsIn p x (cond b (map d.number (range_with_len 0 (c + 1))) (d.up_to v c ∷ []))) [
-        | true ↦ record { value = d.number x; among = member-map d.number x (range_with_len 0 (c + 1)) (member-range x 0 (c + 1) (omega arith) (omega arith)); stands = l.number_stands x p valid }
+        | true ↦ record { value = d.number x; among = Contains-map d.number (range_with_len 0 (c + 1)) x (member-range x 0 (c + 1) (omega arith) (omega arith)); stands = l.number_stands x p valid }
         | false ↦ record { value = d.up_to v c; among = Contains-here (d.up_to v c) []; stands = l.up_to_stands v c p x valid less h }
       ]
 
@@ -367,7 +359,7 @@ module _ {D : Type 0} (d : Values D) (l : IsLawful d) where
   states-describe image n s p m None k h x = record { state = s; among = Contains-here s []; describes = x }
   states-describe image n s p m (Some values) k h x = record {
     state = with_noted_value d n s h.value;
-    among = member-map (with_noted_value d n s) h.value values h.among;
+    among = Contains-map (with_noted_value d n s) values h.value h.among;
     describes = with-noted-describes image n s h.value p m k h.stands x;
   }
 

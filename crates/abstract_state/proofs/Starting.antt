@@ -6,7 +6,7 @@ use Rattle.std.proofs.lemmas.Bool.{false≢true, leb-true}
 use Rattle.std.proofs.lemmas.Int.{ints}
 use Rattle.std.proofs.lemmas.List.{map-append}
 use Rattle.std.proofs.lemmas.List.Elements.{All-cons, All-contains, All-contains_itself, All-head, All-nil, All-tail, All-weaker, Contains-append_left, Contains-append_right, Contains-append_cases}
-use Rattle.flow_log.proofs.Members.{Contains-cases, Contains-here, Contains-later, Contains-none}
+use Rattle.flow_log.proofs.Members.{Contains-cases, Contains-here, Contains-later, Contains-map, Contains-none}
 use Rattle.bit_words.specs.declared.width.Width.TheVariants.{B32}
 use Rattle.memory_map.specs.declared.span.Span.{Span}
 use Rattle.memory_map.specs.Image.{EXIT_PLACE, Image, IsLoaded, has_exit_word}
@@ -35,16 +35,6 @@ use Rattle.abstract_state.proofs.BridgeBytes.{region-bytes}
 -- the places of a run from this start
 abbrev places_of : Image → MachineState → Places
 places_of image m = record { align = image.align; stack = m.registers.esp; fs = m.fs; gs = m.gs; blocks = [] }
-
--- ---- lists
-
-member-map : {X Y : Type 0} (f : X → Y) (x : X) (xs : List X) → Contains xs x → Contains (map f xs) (f x)
-member-map f x [] k = absurd (Contains-none x k)
-member-map {X} f x (y ∷ ys) k =
-    elim (Contains-cases y x ys k) [
-      | inl e ↦ subst (λ (z : X). Contains (f y ∷ map f ys) (f z)) e (Contains-here (f y) (map f ys))
-      | inr later ↦ Contains-later (f y) (f x) (map f ys) (member-map f x ys later)
-    ]
 
 -- ---- the windows, each at its base
 
@@ -264,7 +254,7 @@ module _ (image : Image) (m : MachineState) (loaded : IsLoaded image) (start : S
   segment-mapped : (t : Range) → Contains image.segments t → Contains (mappings m) (mapping_of t)
   segment-mapped t in' =
       let k = mapping_of t in
-      let here : Contains (map mapping_of held) k = subst (λ (ks : List Mapping). Contains ks k) (sym same) (member-map mapping_of t image.segments in') in
+      let here : Contains (map mapping_of held) k = subst (λ (ks : List Mapping). Contains ks k) (sym same) (Contains-map mapping_of image.segments t in') in
       subst (λ (ks : List Mapping). Contains ks k) (sym mappings-are) (Contains-later (mapping_of m.stack) k (map mapping_of held ++ map mapping_of windows) (Contains-append_left (map mapping_of held) (map mapping_of windows) k here))
 
   not-run : (r : Range) (x : Mapping) → r.execute ≡ false → mapping_of r ≡ x → x.execute ≡ true → ⊥
@@ -288,8 +278,8 @@ module _ (image : Image) (m : MachineState) (loaded : IsLoaded image) (start : S
 
   mapped-at : (r : Region) (b : ℕ) → HasBase p r b → IsMappedAt (mappings m) r b
   mapped-at Stack b e = record { mapping = mapping_of m.stack; there = Contains-here (mapping_of m.stack) (map mapping_of m.ranges); is = subst (λ (x : ℕ). IsRegionAt Stack x (mapping_of m.stack)) (sym e) stack-at }
-  mapped-at Fs b e = record { mapping = mapping_of start.mapped.fs_window; there = member-map mapping_of start.mapped.fs_window (memory m) (in-memory start.mapped.fs_window fs-in); is = subst (λ (x : ℕ). IsRegionAt Fs x (mapping_of start.mapped.fs_window)) (sym e) fs-at }
-  mapped-at Gs b e = record { mapping = mapping_of start.mapped.gs_window; there = member-map mapping_of start.mapped.gs_window (memory m) (in-memory start.mapped.gs_window gs-in); is = subst (λ (x : ℕ). IsRegionAt Gs x (mapping_of start.mapped.gs_window)) (sym e) gs-at }
+  mapped-at Fs b e = record { mapping = mapping_of start.mapped.fs_window; there = Contains-map mapping_of (memory m) start.mapped.fs_window (in-memory start.mapped.fs_window fs-in); is = subst (λ (x : ℕ). IsRegionAt Fs x (mapping_of start.mapped.fs_window)) (sym e) fs-at }
+  mapped-at Gs b e = record { mapping = mapping_of start.mapped.gs_window; there = Contains-map mapping_of (memory m) start.mapped.gs_window (in-memory start.mapped.gs_window gs-in); is = subst (λ (x : ℕ). IsRegionAt Gs x (mapping_of start.mapped.gs_window)) (sym e) gs-at }
   mapped-at (Block site size zeroed) b e = absurd (Contains-none (Block site size zeroed, b) e)
 
   fits : Fits image p m

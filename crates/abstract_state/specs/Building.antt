@@ -24,7 +24,7 @@ use Rattle.abstract_state.specs.declared.note.Note.TheVariants.{Register, Word}
 use Rattle.abstract_state.specs.declared.plain.StateData.{StateData}
 use Rattle.abstract_state.specs.declared.build.BuildFault.{BuildFault}
 use Rattle.abstract_state.specs.declared.build.BuildFault.TheVariants.{NotWell, Memory}
-use Rattle.abstract_state.specs.State.{Known, IsWellState}
+use Rattle.abstract_state.specs.State.{Known}
 
 -- ---- a state as plain lists
 
@@ -110,18 +110,7 @@ abbrev pub IsBuildFault : {D : Type 0} → Option (Known D) → BuildFault → T
 IsBuildFault state NotWell = state ≡ None
 IsBuildFault state Memory = Unit {0}
 
--- ---- laws
-
 -- the bytes of its image facts and of its image dirty ranges are bytes of the image
 pub record HasImageBytes {D : Type 0} (image : Image) (s : Known D) : Type 0 where
   pub facts : list_all (is_fact_of image) s.parts.facts ≡ true
   pub dirty : list_all (is_dirty_of image) s.parts.dirty ≡ true
-
-module _ {D : Type 0} (d : Values D) where
-  -- the plain lists of a state are built to that state again
-  abbrev pub PlainStatesAreBuilt : Type 0
-  PlainStatesAreBuilt = (image : Image) (s : Known D) → IsWellState d s → HasImageBytes image s → built d image (plain_of s) ≡ Some s
-
-  -- what is built has the plain lists of which it was built, and is a state of the image
-  abbrev pub BuiltStatesArePlain : Type 0
-  BuiltStatesArePlain = (image : Image) (p : StateData D) (s : Known D) → built d image p ≡ Some s → (plain_of s ≡ p) × HasImageBytes image s

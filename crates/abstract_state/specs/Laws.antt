@@ -1,5 +1,5 @@
--- What covering, widening, refining and the start state keep.
-use Rattle.std.specs.Prelude.{ℕ, ◌≡◌, true, List, Contains}
+-- What covering, widening, refining, the start state and states of plain lists keep.
+use Rattle.std.specs.Prelude.{ℕ, ◌≡◌, true, List, Contains, Some}
 use Rattle.address_regions.specs.Places.{Places}
 use Rattle.domain_laws.specs.Laws.{Values}
 use Rattle.memory_map.specs.Image.{Image, IsLoaded}
@@ -8,7 +8,9 @@ use Rattle.memory_map.specs.Start.{Start}
 use Rattle.x86_syntax.specs.declared.instr.Cond.{Cond}
 use Rattle.x86_semantics.specs.Condition.{is_met}
 use Rattle.abstract_state.specs.declared.truth.Truth.TheVariants.{Unknown}
+use Rattle.abstract_state.specs.declared.plain.StateData.{StateData}
 use Rattle.abstract_state.specs.declared.seen.Holder.{Holder}
+use Rattle.abstract_state.specs.Building.{HasImageBytes, built, plain_of}
 use Rattle.abstract_state.specs.Describes.{Describes, IsDescribed}
 use Rattle.abstract_state.specs.Flags.{truth_met}
 use Rattle.abstract_state.specs.Refining.{refined}
@@ -47,3 +49,11 @@ module _ {D : Type 0} (d : Values D) where
   RefiningKeepsWell =
       (image : Image) (k : ℕ) (condition : Cond) (s t : Known D) →
       IsWellState d s → Contains (refined d image k condition s) t → IsWellState d t
+
+  -- the plain lists of a state are built to that state again
+  abbrev pub PlainStatesAreBuilt : Type 0
+  PlainStatesAreBuilt = (image : Image) (s : Known D) → IsWellState d s → HasImageBytes image s → built d image (plain_of s) ≡ Some s
+
+  -- what is built has the plain lists of which it was built, and is a state of the image
+  abbrev pub BuiltStatesArePlain : Type 0
+  BuiltStatesArePlain = (image : Image) (p : StateData D) (s : Known D) → built d image p ≡ Some s → (plain_of s ≡ p) × HasImageBytes image s

@@ -9,5 +9,5 @@ pub mod Accessing
 pub mod Refining
 pub mod Widening
 pub mod Counts
-pub mod Laws
 pub mod Building
+pub mod Laws

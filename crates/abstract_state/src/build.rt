@@ -6,7 +6,7 @@ ghost use Rattle.partitioned_memory.specs.Areas.{interval_at};
 ghost use Rattle.partitioned_memory.specs.Building.{lies_inside, may_hold};
 ghost use Rattle.abstract_state.specs.Notes.{IsWellNote};
 ghost use Rattle.abstract_state.specs.State.{IsWellState};
-ghost use Rattle.abstract_state.specs.Building.{BuiltStatesArePlain, IsBuildFault, PlainStatesAreBuilt, are_image_bytes, built, is_dirty_of, is_fact_of, is_note, is_small, is_state, is_well_note, registers_of, truths_of};
+ghost use Rattle.abstract_state.specs.Building.{IsBuildFault, are_image_bytes, built, is_dirty_of, is_fact_of, is_note, is_small, is_state, is_well_note, registers_of, truths_of};
 
 use crate::flags::Truths;
 use crate::note::Note;
@@ -226,10 +226,3 @@ impl<D: Domain> State<D> {
         let _ = &self.parts;
     }
 }
-
-/// A law: the plain lists of a state are built to that state again for each image that has the bytes of its image facts and of its image
-/// dirty ranges, and what is built for an image has its lists and these bytes.
-pub fn plain_states_are_built<D: Domain>()
-    ensures again { PlainStatesAreBuilt (values_of D.Domain.own D.eq) }
-    ensures plain { BuiltStatesArePlain (values_of D.Domain.own D.eq) }
-{}

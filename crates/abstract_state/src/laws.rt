@@ -1,5 +1,5 @@
 ghost use Rattle.domain_laws.specs.Made.{values_of};
-ghost use Rattle.abstract_state.specs.Laws.{CoveringIsSound, RefiningIsSound, RefiningKeepsWell, StartIsWell, StartsAreDescribed, WideningIsSound, WideningKeepsWell};
+ghost use Rattle.abstract_state.specs.Laws.{BuiltStatesArePlain, CoveringIsSound, PlainStatesAreBuilt, RefiningIsSound, RefiningKeepsWell, StartIsWell, StartsAreDescribed, WideningIsSound, WideningKeepsWell};
 
 use domain_laws::Domain;
 
@@ -24,4 +24,11 @@ pub fn starts_are_described<D: Domain>()
 pub fn refining_is_sound<D: Domain>()
     ensures sound { RefiningIsSound (values_of D.Domain.own D.eq) }
     ensures well { RefiningKeepsWell (values_of D.Domain.own D.eq) }
+{}
+
+/// The plain lists of a state are built to that state again for each image that has the bytes of its image facts and of its image dirty
+/// ranges. What is built for an image has the lists of which it was built, and the image has these bytes.
+pub fn plain_states_are_built<D: Domain>()
+    ensures again { PlainStatesAreBuilt (values_of D.Domain.own D.eq) }
+    ensures plain { BuiltStatesArePlain (values_of D.Domain.own D.eq) }
 {}

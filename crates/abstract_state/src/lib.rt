@@ -22,10 +22,13 @@ mod truth;
 mod widening;
 mod writing;
 
-pub use build::{BuildFault, is_dirty_of, is_fact_of, plain_states_are_built};
+pub use build::{BuildFault, is_dirty_of, is_fact_of};
 pub use expansion::Expansion;
 pub use flags::Truths;
-pub use laws::{covering_is_sound, refining_is_sound, starts_are_described, widening_is_sound};
+pub use laws::{
+    covering_is_sound, plain_states_are_built, refining_is_sound, starts_are_described,
+    widening_is_sound,
+};
 pub use memory_map::Regs;
 pub use note::Note;
 pub use path::Path;

@@ -27,8 +27,16 @@ pub struct StateData<D: Domain> {
 fn registers_in<D: Domain>(alloc: Global, g: &Regs<D>) -> Result<Items<D>, NoMemory>
     ensures { IfOk result (λ values. values ≡ registers_in g.now) }
 {
-    let values = [g.eax, g.ecx, g.edx, g.ebx, g.esp, g.ebp, g.esi, g.edi];
-    Ok(Items::from_vec(Vec::from_array(alloc, values)?))
+    let mut values = Vec::with_capacity(alloc, 8)?;
+    values.push(g.eax)?;
+    values.push(g.ecx)?;
+    values.push(g.edx)?;
+    values.push(g.ebx)?;
+    values.push(g.esp)?;
+    values.push(g.ebp)?;
+    values.push(g.esi)?;
+    values.push(g.edi)?;
+    Ok(Items::from_vec(values))
 }
 
 fn truths_in(alloc: Global, t: Truths) -> Result<Items<Truth>, NoMemory>
@@ -48,16 +56,18 @@ fn truths_in(alloc: Global, t: Truths) -> Result<Items<Truth>, NoMemory>
 
 impl<D: Domain> State<D> {
     /// The state as plain lists. Refuses want of memory alone.
-    pub fn to_plain(&self, alloc: Global) -> Result<StateData<D>, NoMemory>
+    pub fn to_plain(&self) -> Result<StateData<D>, NoMemory>
         ensures { IfOk result (λ plain. plain ≡ plain_of self.now) }
     {
+        let facts = self.parts.copy_facts()?;
+        let alloc = *facts.allocator();
         Ok(StateData {
             regs: registers_in(alloc, &self.regs)?,
             flags: truths_in(alloc, self.flags)?,
             note: self.note,
-            facts: Items::from_vec(self.parts.copy_facts()?),
-            dirty: Items::from_vec(self.parts.copy_dirty(alloc)?),
-            blocks: Items::from_vec(self.parts.copy_blocks(alloc)?),
+            facts: Items::from_vec(facts),
+            dirty: Items::from_vec(self.parts.copy_dirty()?),
+            blocks: Items::from_vec(self.parts.copy_blocks()?),
         })
     }
 }

@@ -151,17 +151,16 @@ impl<D: Domain> Seen<D> {
         ensures ok { OnOk result (self.new ≡ seen_with (values_of D.Domain.own D.eq) s.now self.old) }
         ensures err { OnErr result (IsPartlySeen (values_of D.Domain.own D.eq) s.now self.old self.new) }
     {
-        let alloc = *self.few.allocator();
-        self.index_many(alloc)?;
-        let pairs = held(alloc, s)?;
+        let pairs = held(*self.few.allocator(), s)?;
         self.insert_all(&pairs)
     }
 
-    // The pairs go into an index where there are many.
-    fn index_many(&mut self, alloc: Global) -> Result<(), NoMemory>
+    // The pairs go into an index once there are many.
+    fn index_many(&mut self) -> Result<(), NoMemory>
         ensures { self.new ≡ self.old }
     {
         if self.index.is_none() && INDEXED <= self.few.len() {
+            let alloc = *self.few.allocator();
             let index = PairIndex::of(alloc, &self.few)?;
             self.index = Some(index);
             self.few = Vec::new(alloc);
@@ -183,6 +182,7 @@ impl<D: Domain> Seen<D> {
         ensures ok { OnOk result (self.new ≡ with_pair (values_of D.Domain.own D.eq) self.old (holder, value)) }
         ensures err { OnErr result (self.new ≡ self.old) }
     {
+        self.index_many()?;
         match &mut self.index {
             Some(index) => index.insert(holder, value),
             None => insert_among(&mut self.few, holder, value),

@@ -1,3 +1,5 @@
+mod plain;
+
 use super::*;
 use bit_words::{NoMemory, Width};
 use domain_laws::FlatNumbers;

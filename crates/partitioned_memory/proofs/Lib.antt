@@ -16,3 +16,4 @@ pub mod DirtySpots
 pub mod ByteSpots
 pub mod KnownBytes
 pub mod BuiltParts
+pub mod Ordered

@@ -6,5 +6,6 @@ pub mod Held
 pub mod KnownBytes
 pub mod Well
 pub mod Building
+pub mod Ordered
 pub mod Describes
 pub mod Sound

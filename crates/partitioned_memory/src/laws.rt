@@ -1,4 +1,5 @@
 ghost use Rattle.domain_laws.specs.Made.{values_of};
+ghost use Rattle.partitioned_memory.specs.Ordered.{AreasAreOrdered, SpotsAreOrdered};
 ghost use Rattle.partitioned_memory.specs.Sound.{BesideKeeps, BlockKeeps, CoversDescribes, ExactKeeps, ForgetKeeps, InsideKeeps, KnownStands, ReadStands, SpreadIsApart};
 
 use domain_laws::Domain;
@@ -24,4 +25,10 @@ pub fn calls_are_right<D: Domain>()
 /// Where the windows and the blocks of a run lie apart from each other and from the segments, as they do in memory, each address is that of one byte at most.
 pub fn spread_is_apart()
     ensures { SpreadIsApart }
+{}
+
+/// The image comes first, then the stack, fs, gs, and then blocks by site, by size, and last those that begin zeroed. Spots go by area, and in one by offset.
+pub fn spots_are_ordered()
+    ensures areas { AreasAreOrdered }
+    ensures spots { SpotsAreOrdered }
 {}

@@ -22,6 +22,6 @@ mod stretches;
 pub use area::Area;
 pub use building::{are_well, may_hold};
 pub use fact::{Counted, Dirty, Fact, Held, Spot};
-pub use laws::{calls_are_right, spread_is_apart};
+pub use laws::{calls_are_right, spots_are_ordered, spread_is_apart};
 pub use parts::Parts;
 pub use spots::Spots;

@@ -297,7 +297,7 @@ fn parts_of_facts(rt: HostRuntime) -> Result<(), Fail> {
     for (name, rows, want) in &FACTS {
         let facts = facts_of(alloc, rows)?;
         let built = builds(&rt, alloc, name, &facts, &[], &blocks)?;
-        assert!(&rt; built == *want, "{name}");
+        assert!(rt; built == *want, "{name}");
     }
     Ok(())
 }
@@ -309,7 +309,7 @@ fn parts_of_dirty_ranges(rt: HostRuntime) -> Result<(), Fail> {
     for (name, rows, want) in &DIRTY {
         let ranges = dirty_of(alloc, rows)?;
         let built = builds(&rt, alloc, name, &[], &ranges, &blocks)?;
-        assert!(&rt; built == *want, "{name}");
+        assert!(rt; built == *want, "{name}");
     }
     Ok(())
 }
@@ -320,7 +320,7 @@ fn parts_of_counts(rt: HostRuntime) -> Result<(), Fail> {
     for (name, rows, want) in &COUNTS {
         let counts = counts_of(alloc, rows)?;
         let built = builds(&rt, alloc, name, &[], &[], &counts)?;
-        assert!(&rt; built == *want, "{name}");
+        assert!(rt; built == *want, "{name}");
     }
     Ok(())
 }
