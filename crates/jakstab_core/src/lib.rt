@@ -9,6 +9,8 @@ mod decode_tests;
 mod demo_tests;
 mod due;
 #[cfg(test)]
+mod hostile_tests;
+#[cfg(test)]
 mod image_tests;
 #[cfg(test)]
 mod import_tests;
