@@ -5,3 +5,4 @@ pub mod Lookups
 pub mod Walks
 pub mod Kept
 pub mod Files
+pub mod Known

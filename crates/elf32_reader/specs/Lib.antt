@@ -6,6 +6,7 @@ pub mod Symbols
 pub mod Relocations
 pub mod Looked
 pub mod Walk
+pub mod KnownNames
 pub mod WalkedOn
 pub mod ElfFile
 pub mod Shown

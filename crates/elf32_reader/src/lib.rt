@@ -8,6 +8,7 @@ mod elf_file;
 mod entry;
 mod fault;
 mod header;
+mod known_names;
 mod lookup;
 mod program_header;
 mod reader;

@@ -3,3 +3,4 @@ pub mod Found
 pub mod Named
 pub mod Filled
 pub mod Images
+pub mod Placed

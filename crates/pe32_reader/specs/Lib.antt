@@ -1,3 +1,4 @@
 pub mod Imports
 pub mod Walk
+pub mod NamedPlaces
 pub mod Image

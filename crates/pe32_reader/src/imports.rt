@@ -1,12 +1,14 @@
-ghost use Rattle.std.specs.Prelude.{◌≡◌, ◌⊎◌, ◌≤◌, ◌<◌, ◌^◌, ◌==◌, map, nat_le, length, IsTrue, IfOk, MatchResult, Ok, Err, OnOk, if◌then◌else◌};
+ghost use Rattle.std.specs.Prelude.{◌≡◌, ◌≢◌, ◌⊎◌, ◌≤◌, ◌<◌, ◌^◌, ◌==◌, map, nat_le, length, IsTrue, IfOk, MatchResult, Ok, Err, OnOk, if◌then◌else◌};
 ghost use Rattle.memory_map.specs.Map.{range_of};
 ghost use Rattle.memory_map.specs.Name.{is_name};
 ghost use Rattle.file_pieces.specs.Found.{is_in_one, name_at};
 ghost use Rattle.file_pieces.specs.Names.{index_of, with_name};
-ghost use Rattle.pe32_reader.specs.Imports.{descriptor_step, descriptors, each_entry, import_place, imports_of, library_thunks, nothing, thunk_step, thunks, with_import, with_some_name, MOST_DESCRIPTORS, NAME_ROOM, TOO_MANY_THUNKS};
+ghost use Rattle.pe32_reader.specs.Imports.{ended, descriptor_step, descriptors, each_entry, import_place, imports_of, library_thunks, nothing, thunk_step, thunks, with_import, with_some_name, MOST_DESCRIPTORS, NAME_ROOM, TOO_MANY_THUNKS};
+ghost use Rattle.pe32_reader.specs.NamedPlaces.{AreNamed};
 ghost use Rattle.pe32_reader.specs.Walk.{seen_by, ComesTo, HasSlots};
 
 use crate::descriptor::{DESCRIPTOR_SIZE, Descriptor, descriptor_at, word_in};
+use crate::named_places::NamedPlaces;
 use crate::names::{NAME_BYTES, import_name};
 use crate::slots::{Slot, slot_address};
 use file_pieces::{NameFault, SeenNames, name_at};
@@ -30,6 +32,21 @@ fn import_place(index: u32) -> u32
     ensures { result ≡ import_place index }
 {
     USER_END + 16 + 16 * index
+}
+
+// Whether a descriptor has a FirstThunk and no thunk word.
+fn has_no_thunk(segments: &Segments, base: u32, descriptor: Descriptor) -> bool
+    ensures none { IsTrue result → library_thunks (map range_of segments.now) base descriptor ≡ ended }
+    ensures first { IsTrue result → descriptor.first_thunk ≢ 0 }
+{
+    if descriptor.first_thunk == 0 {
+        return false;
+    }
+    let list = address_from(base, descriptor.name_list());
+    match word_in(segments, u64::from(list)) {
+        Some(word) => word == 0,
+        None => false,
+    }
 }
 
 impl ImportTable {
@@ -130,22 +147,29 @@ impl ImportTable {
         Err(PeFault::Imports)
     }
 
-    // A descriptor: its library's name, its FirstThunk and its thunk words.
+    // A descriptor: its library's name, its FirstThunk and its thunk words. A name that no import is to have is read once.
     fn take_descriptor(
         &mut self,
         alloc: Global,
         segments: &Segments,
         base: u32,
+        named: &mut NamedPlaces,
         descriptor: Descriptor,
     ) -> Result<(), PeFault>
-        requires { HasSlots self.old }
+        requires slots { HasSlots self.old }
+        requires named { AreNamed (map range_of segments.now) named.old }
         ensures exact { ComesTo (descriptor_step (map range_of segments.now) base descriptor (seen_by self.old)) (seen_by self.new) result }
         ensures few { OnOk result (HasSlots self.new) }
+        ensures named { OnOk result (AreNamed (map range_of segments.now) named.new) }
     {
         let at = address_from(base, descriptor.name);
+        if named.has(at) && has_no_thunk(segments, base, descriptor) {
+            return Ok(());
+        }
         match name_at(segments, u64::from(at), NAME_BYTES) {
             None => Err(PeFault::Name),
             Some(library) => {
+                named.insert(at)?;
                 if descriptor.first_thunk == 0 {
                     return Err(PeFault::Imports);
                 }
@@ -168,12 +192,13 @@ impl ImportTable {
         ensures exact { ComesTo (each_entry (descriptor_step (map range_of segments.now) base) (descriptors (map range_of segments.now) MOST_DESCRIPTORS directory) (seen_by self.old)) (seen_by self.new) result }
         ensures few { OnOk result (HasSlots self.new) }
     {
+        let mut named = NamedPlaces::new(alloc);
         for i in 0..DESCRIPTOR_ROUNDS {
             match descriptor_at(segments, u64::from(directory) + DESCRIPTOR_SIZE * i) {
                 None => return Err(PeFault::Imports),
                 Some(None) => return Ok(()),
                 Some(Some(descriptor)) => {
-                    self.take_descriptor(alloc, segments, base, descriptor)?;
+                    self.take_descriptor(alloc, segments, base, &mut named, descriptor)?;
                 }
             }
         }

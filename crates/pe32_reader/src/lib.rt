@@ -6,6 +6,7 @@
 mod descriptor;
 mod file;
 mod imports;
+mod named_places;
 mod names;
 mod slots;
 

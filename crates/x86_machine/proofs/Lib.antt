@@ -8,3 +8,4 @@ pub mod StatesMeet
 pub mod StatesStated
 pub mod Apart
 pub mod Placing
+pub mod Zeroing

@@ -1,4 +1,5 @@
-ghost use Rattle.std.specs.Prelude.{◌≡◌, ◌+◌, ◌<◌, ◌^◌, ◌&&◌, ◌||◌, not, map, position};
+ghost use Rattle.std.specs.Prelude.{◌≡◌, ◌+◌, ◌-◌, ◌<◌, ◌^◌, ◌&&◌, ◌||◌, not, map, position, OnOk};
+ghost use Rattle.std.specs.List.Sorted.{IsNonDecreasingBy, IsPermutation};
 ghost use Rattle.std.specs.List.{enumerate_from, list_all, list_any, range_with_len};
 ghost use Rattle.memory_map.specs.Image.{has_exit_word, is_pe};
 ghost use Rattle.memory_map.specs.Range.{has};
@@ -11,6 +12,7 @@ use crate::window::{base_window, stack_window};
 use image_loader::Image;
 use memory_map::{Fill, Format, Span};
 use statement_lang::Cells;
+use std::alloc::{AllocError, Global};
 
 const WORD_BYTES: u32 = 4;
 
@@ -69,23 +71,45 @@ pub fn first_bad_fill(image: &Image, start: &StartFile) -> Option<usize>
         .position(|fill| !is_free_fill(image, start, fill))
 }
 
-// Fills a byte with 0 at each address of a span.
-fn zero_span(cells: &mut Cells, span: &Span)
-    ensures { cells.new ≡ with_fills (map (λ a. (a, 0)) (range_with_len span.now.low span.now.size)) cells.old }
+// Fills a byte with 0 at each address from one up to another.
+fn zero_between(cells: &mut Cells, from: u64, end: u64)
+    ensures { cells.new ≡ with_fills (map (λ a. (a, 0)) (range_with_len from (end - from))) cells.old }
 {
-    let low = u64::from(span.low);
-    for i in 0..u64::from(span.size) {
-        cells.fill(low + i, 0);
+    for a in from..end {
+        cells.fill(a, 0);
+    }
+}
+
+fn sort_by_low(spans: &mut Vec<Span>) -> Result<(), AllocError>
+    ensures moved { IsPermutation spans.old.items spans.new.items }
+    ensures sorted { OnOk result (IsNonDecreasingBy (λ s. s.low) spans.new.items) }
+{
+    spans.sort_by_key(|s| s.low)?;
+    Ok(())
+}
+
+// Fills a byte with 0 at each address of spans in the order of their first ones: once, also where several have it.
+fn zero_sorted(cells: &mut Cells, sorted: &[Span])
+    requires { IsNonDecreasingBy (λ s. s.low) sorted.now }
+    ensures { cells.new ≡ with_fills (unset_zeros sorted.now) cells.old }
+{
+    let mut done = 0u64;
+    for span in sorted {
+        let low = u64::from(span.low);
+        let end = low + u64::from(span.size);
+        zero_between(cells, low.max(done), end);
+        done = done.max(end);
     }
 }
 
 /// Fills unset bytes with 0.
-pub fn zero_unset(cells: &mut Cells, unset: &[Span])
-    ensures { cells.new ≡ with_fills (unset_zeros unset.now) cells.old }
+pub fn zero_unset(alloc: Global, cells: &mut Cells, unset: &[Span]) -> Result<(), AllocError>
+    ensures { OnOk result (cells.new ≡ with_fills (unset_zeros unset.now) cells.old) }
 {
-    for span in unset {
-        zero_span(cells, span);
-    }
+    let mut sorted = Vec::from_slice(alloc, unset)?;
+    sort_by_low(&mut sorted)?;
+    zero_sorted(cells, &sorted);
+    Ok(())
 }
 
 fn fill_one(cells: &mut Cells, fill: &Fill)

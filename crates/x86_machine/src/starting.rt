@@ -116,7 +116,7 @@ pub fn start_cells(alloc: Global, image: &Image, start: &StartFile) -> Result<Ce
             index: index as u64,
         });
     }
-    zero_unset(&mut cells, image.unset().as_slice());
+    zero_unset(alloc, &mut cells, image.unset().as_slice())?;
     fill_all(&mut cells, start.fill.as_slice());
     fill_exit_word(&mut cells, image.format());
     Ok(cells)

@@ -48,6 +48,6 @@ returns c =
     let m = c.fill_all.new.cells in
     filled_as image s None aligned lie apart (sym c.first_bad_fill.ensures ∙ c.in_default.is)
     ∙ ap Ok (filled_state image s c.in_ok-cells.cells c.zero_unset.new.cells m c.fill_exit_word.new.cells c.in_ok-cells.ensures.0
-    (c.zero_unset.ensures ∙ ap (λ l. with_fills l c.in_ok-cells.cells) unset)
+    (c.in_ok-zero_unset.ensures ∙ ap (λ l. with_fills l c.in_ok-cells.cells) unset)
     (c.fill_all.ensures ∙ ap (λ l. with_fills l c.zero_unset.new.cells) fills)
     (c.fill_exit_word.ensures ∙ ap (λ f. with_fills (exit_word (is_pe f) m.registers.esp) m) c.format.ensures))

@@ -55,6 +55,7 @@ loop-i-preserved c =
           ∙ each-goes step (descriptors ranges (MOST_DESCRIPTORS - i) at) (seen_by c.loop-i.self) found (descriptors ranges m (at + 20)) next table c.in_ok-take_descriptor-in-Some-Some.ensures.exact
           ∙ ap (λ a. each_entry step (descriptors ranges m a) next) on;
       slots = c.in_ok-take_descriptor-in-Some-Some.ensures.few;
+      named = c.in_ok-take_descriptor-in-Some-Some.ensures.named;
     }
 
 pub returns-clause-exact : goal.returns-clause-exact
