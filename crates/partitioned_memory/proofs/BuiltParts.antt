@@ -30,7 +30,7 @@ use Rattle.partitioned_memory.specs.Building.{are_blocks, are_sound_dirty, are_s
 use Rattle.partitioned_memory.specs.Held.{PartsHeld, count_before, dirty_at, dirty_before, fact_at, fact_before, interval_of_dirty, interval_of_fact, is_counted, one_block, pair_of_dirty, pair_of_fact}
 use Rattle.partitioned_memory.specs.Lists.{Ascends, Every, Falls}
 use Rattle.partitioned_memory.specs.Pairs.{pair_before}
-use Rattle.partitioned_memory.specs.Well.{FitsWidth, HasCount, IsBlock, IsWell, IsWellDirty, IsWellFact, MayHold}
+use Rattle.partitioned_memory.specs.Well.{FitsWidth, HasCount, IsBlock, IsWell, IsWellDirty, IsWellFact}
 use Rattle.partitioned_memory.proofs.ListLaws.{Every-weaker, Every-both}
 use Rattle.partitioned_memory.proofs.Cuts.{Falls-ascending}
 use Rattle.partitioned_memory.proofs.Kept.{fact_before-trans}

@@ -1,5 +1,5 @@
 -- Which facts, dirty ranges and counts of blocks parts may be built of, as a test.
-use Rattle.std.specs.Prelude.{◌^◌, Bool, true, not, ◌&&◌, ◌==◌, nat_lt, List, [], ◌∷◌, ℤ, pos, int_le, int_lt, Option, None, Some}
+use Rattle.std.specs.Prelude.{◌^◌, Bool, true, not, ◌&&◌, ◌==◌, nat_lt, List, [], ◌∷◌, pos, int_le, int_lt, Option, None, Some}
 use Rattle.std.specs.List.{list_all}
 use Rattle.std.specs.Option.{option_map_or}
 use Rattle.bit_words.specs.declared.width.Width.{Width}
