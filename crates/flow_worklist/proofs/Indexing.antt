@@ -1,5 +1,5 @@
 -- What is kept of each location stays true as rows come.
-use Rattle.std.proofs.Common.{◌≡◌, ℕ, Bool, true, false, List, [], ◌∷◌, ◌++◌, length, map, cond, Option, Some, None, refl, sym, ◌∙◌, ap, subst, ◌==◌, ◌||◌}
+use Rattle.std.proofs.Common.{◌≡◌, ℕ, suc, Bool, true, false, List, [], ◌∷◌, ◌++◌, length, map, cond, Option, Some, None, refl, sym, ◌∙◌, ap, subst, ◌==◌, ◌||◌}
 use Rattle.std.specs.Prelude.{fold, nat_eq, slice_get}
 use Rattle.std.specs.List.{list_any}
 use Rattle.std.specs.Option.{option_map_or}
@@ -12,7 +12,10 @@ use Rattle.flow_log.proofs.Members.{slice_get-append, slice_get-last}
 use Rattle.abstract_state.specs.State.{Known, covers_state}
 use Rattle.abstract_state.specs.Widening.{seen_of, seen_with}
 use Rattle.flow_worklist.specs.declared.visits.Visits.{Visits}
-use Rattle.flow_worklist.specs.Exploring.{covers_at, IsOf, IsKept}
+use Rattle.flow_worklist.specs.declared.row_index.RowIndex.{RowIndex}
+use Rattle.flow_worklist.specs.Covering.{covers_at, covers_by}
+use Rattle.flow_worklist.specs.Grouping.{IsIndexOf}
+use Rattle.flow_worklist.specs.Exploring.{IsOf, IsKept}
 
 fold_more : {A X : Type 0} (f : A → X → A) (a : A) (xs : List X) (x : X) → fold f a (xs ++ x ∷ []) ≡ f (fold f a xs) x
 fold_more f a [] x = refl
@@ -59,23 +62,38 @@ module _ {D : Type 0} (d : Values D) where
   seen_of-none = refl
 
   -- nothing is kept of a location that has no row
-  pub is_new : (v : Visits D) (at : ℕ) (rows : List (Row (Known D))) → v.numbers.items ≡ [] → v.seen ≡ [] → rows_at at rows ≡ [] → IsOf d v at rows
-  is_new v at rows none unseen empty = record {
+  pub is_new : (v : Visits D) (at : ℕ) (rows : List (Row (Known D))) → v.numbers.items ≡ [] → v.seen ≡ [] → v.index ≡ None → rows_at at rows ≡ [] → IsOf d v at rows
+  is_new v at rows none unseen unindexed empty = record {
     numbers = ap (map (slice_get rows)) none ∙ sym (ap (map Some) empty);
     seen = unseen ∙ sym seen_of-none ∙ ap (seen_of d) (sym (states_are at rows ∙ ap (map (λ (row : Row (Known D)). row.state)) empty));
+    indexed = (let P : Option RowIndex → Type 0 = λ o. IsIndexOf d o (states_at at rows) in subst P (sym unindexed) tt);
   }
 
+  -- as many states as numbers
+  count_is : (rows : List (Row (Known D))) (ns : List ℕ) (found : List (Row (Known D))) → map (slice_get rows) ns ≡ map Some found
+      → length (map (λ (row : Row (Known D)). row.state) found) ≡ length ns
+  count_is rows [] [] e = refl
+  count_is rows [] (r ∷ found) e = absurd (cc)
+  count_is rows (n ∷ ns) [] e = absurd (cc)
+  count_is rows (n ∷ ns) (r ∷ found) e =
+      let more : map (slice_get rows) ns ≡ map Some found = cc in
+      ap (λ n. suc n) (count_is rows ns found more)
+
   -- a row more at the location
-  pub is_more : (v w : Visits D) (at : ℕ) (rows : List (Row (Known D))) (row : Row (Known D)) → (row.location == at) ≡ true → IsOf d v at rows
-      → w.numbers.items ≡ v.numbers.items ++ length rows ∷ [] → w.seen ≡ seen_with d row.state v.seen → IsOf d w at (rows ++ row ∷ [])
-  is_more v w at rows row located h numbers seen =
+  pub is_more : (v w : Visits D) (at : ℕ) (rows : List (Row (Known D))) (row : Row (Known D)) (s : Known D) → row.state ≡ s → (row.location == at) ≡ true → IsOf d v at rows
+      → w.numbers.items ≡ v.numbers.items ++ length rows ∷ [] → w.seen ≡ seen_with d s v.seen
+      → ((states : List (Known D)) → length states ≡ length v.numbers.items → IsIndexOf d v.index states → IsIndexOf d w.index (states ++ s ∷ []))
+      → IsOf d w at (rows ++ row ∷ [])
+  is_more v w at rows row s stated located h numbers seen indexed =
       let states : states_at at (rows ++ row ∷ []) ≡ states_at at rows ++ row.state ∷ [] =
       states_are at (rows ++ row ∷ []) ∙ ap (map (λ (r : Row (Known D)). r.state)) (row_here row at rows located)
       ∙ map-append (λ (r : Row (Known D)). r.state) (rows_at at rows) (row ∷ []) ∙ ap (λ l. l ++ row.state ∷ []) (sym (states_are at rows)) in
       record {
         numbers = ap (map (slice_get (rows ++ row ∷ []))) numbers ∙ numbers_more rows row v.numbers.items (rows_at at rows) h.numbers
             ∙ sym (ap (map Some) (row_here row at rows located));
-        seen = seen ∙ ap (seen_with d row.state) h.seen ∙ sym (seen_of-more (states_at at rows) row.state) ∙ ap (seen_of d) (sym states);
+        seen = seen ∙ ap (λ t. seen_with d t v.seen) (sym stated) ∙ ap (seen_with d row.state) h.seen ∙ sym (seen_of-more (states_at at rows) row.state) ∙ ap (seen_of d) (sym states);
+        indexed = subst (IsIndexOf d w.index) (ap (λ t. states_at at rows ++ t ∷ []) (sym stated) ∙ sym states)
+            (indexed (states_at at rows) (ap length (states_are at rows) ∙ count_is rows v.numbers.items (rows_at at rows) h.numbers) h.indexed);
       }
 
   -- a row more elsewhere
@@ -87,6 +105,8 @@ module _ {D : Type 0} (d : Values D) where
       record {
         numbers = numbers_kept rows (row ∷ []) v.numbers.items (rows_at q rows) h.numbers ∙ sym (ap (map Some) there);
         seen = h.seen ∙ ap (seen_of d) (states_are q rows ∙ sym (ap (map (λ (r : Row (Known D)). r.state)) there) ∙ sym (states_are q (rows ++ row ∷ [])));
+        indexed = subst (IsIndexOf d v.index)
+            (states_are q rows ∙ sym (ap (map (λ (r : Row (Known D)). r.state)) there) ∙ sym (states_are q (rows ++ row ∷ []))) h.indexed;
       }
 
   -- what is kept put back at a location

@@ -1,0 +1,241 @@
+ghost use Rattle.std.specs.Prelude.{◌≡◌, [], Any, false, Contains, IfOk, IfSome, OnOk, Some, ℕ, option_copied, slice_get};
+ghost use Rattle.std.specs.List.{list_any};
+ghost use Rattle.domain_laws.specs.Made.{values_of};
+ghost use Rattle.abstract_state.specs.State.{Known};
+ghost use Rattle.flow_log.specs.Log.{Row as LogRow};
+ghost use Rattle.flow_worklist.specs.Telling.{told_at};
+ghost use Rattle.flow_worklist.specs.Covering.{covers_at, row_nth, row_of};
+ghost use Rattle.flow_worklist.specs.Grouping.{HasPlace, covers_in, covers_nth, places_at, same_key};
+
+use crate::Row;
+use crate::told::{Told, holders_told, told_at};
+use abstract_state::{Holder, State};
+use bit_words::NoMemory;
+use domain_laws::Domain;
+use indexmap::IndexMap;
+use std::alloc::Global;
+
+/// Rows whose states have a number at each of some holders. No other group has its number.
+#[derive(Drop)]
+pub struct Group {
+    pub number: usize,
+    pub holders: Vec<Holder>,
+}
+
+/// Where the rows of a location stand among its rows: by the number of a group, and under the numbers that their states have there; under
+/// `Unclear` stand all rows of the group.
+#[derive(Drop)]
+pub struct RowIndex {
+    pub groups: Vec<Group>,
+    pub places: IndexMap<(usize, Told), Vec<usize>>,
+}
+
+// Whether the row of a number covers a state.
+fn covers_at<D: Domain>(rows: &[Row<D>], s: &State<D>, number: usize) -> bool
+    ensures { result ≡ covers_at (values_of D.Domain.own D.eq) rows.now s.now number }
+{
+    match rows.get(number) {
+        Some(row) => row.state().covers(s),
+        None => false,
+    }
+}
+
+fn number_at(numbers: &[usize], place: usize) -> Option<usize>
+    ensures { result ≡ slice_get numbers.now place }
+{
+    numbers.get(place).copied()
+}
+
+// The row of a number, where there is one.
+fn row_of<'a, D: Domain>(rows: &'a [Row<D>], number: Option<usize>) -> Option<&'a Row<D>>
+    ensures { option_copied result ≡ row_of rows.now number }
+{
+    match number {
+        Some(number) => rows.get(number),
+        None => None,
+    }
+}
+
+// The row at a place among those of these numbers.
+fn row_nth<'a, D: Domain>(rows: &'a [Row<D>], numbers: &[usize], place: usize) -> Option<&'a Row<D>>
+    ensures { option_copied result ≡ row_nth rows.now numbers.now place }
+{
+    row_of(rows, number_at(numbers, place))
+}
+
+// Whether the row at a place among those of these numbers covers a state.
+fn covers_nth<D: Domain>(rows: &[Row<D>], numbers: &[usize], s: &State<D>, place: usize) -> bool
+    ensures { result ≡ covers_nth (values_of D.Domain.own D.eq) rows.now numbers.now s.now place }
+{
+    match row_nth(rows, numbers, place) {
+        Some(row) => row.state().covers(s),
+        None => false,
+    }
+}
+
+/// Whether one of the rows of these numbers covers a state.
+pub fn covers_any<D: Domain>(rows: &[Row<D>], numbers: &[usize], s: &State<D>) -> bool
+    ensures { result ≡ list_any (covers_at (values_of D.Domain.own D.eq) rows.now s.now) numbers.now }
+{
+    numbers.iter().any(|number| covers_at(rows, s, *number))
+}
+
+// These holders, where the state has a number at each, and else none of them; and the digest of the numbers.
+fn sure<D: Domain>(holders: Vec<Holder>, s: &State<D>) -> (Vec<Holder>, u64)
+    ensures { told_at (values_of D.Domain.own D.eq) result.0.items s.now ≡ Told.Numbers result.1 }
+{
+    match told_at(holders.as_slice(), s) {
+        Told::Numbers(digest) => (holders, digest),
+        _ => (Vec::new(*holders.allocator()), 0),
+    }
+}
+
+impl RowIndex {
+    /// No row yet; takes no memory.
+    pub fn new(alloc: Global) -> RowIndex {
+        RowIndex {
+            groups: Vec::new(alloc),
+            places: IndexMap::new(alloc),
+        }
+    }
+
+    fn places_at(&self, group: usize, told: Told) -> &[usize]
+        ensures { result.now ≡ places_at self.now (group, told) }
+    {
+        match self.places.get(&(group, told)) {
+            Some(places) => places.as_slice(),
+            None => &[],
+        }
+    }
+
+    // Whether a row of a group covers a state, among those that may.
+    fn covers_in<D: Domain>(
+        &self,
+        rows: &[Row<D>],
+        numbers: &[usize],
+        s: &State<D>,
+        group: &Group,
+    ) -> bool
+        ensures { result ≡ covers_in (values_of D.Domain.own D.eq) self.now rows.now numbers.now s.now group.now }
+    {
+        let told = told_at(group.holders.as_slice(), s);
+        self.places_at(group.number, told)
+            .iter()
+            .any(|place| covers_nth(rows, numbers, s, *place))
+    }
+
+    /// Whether a row covers a state, among those that may.
+    pub fn covers<D: Domain>(&self, rows: &[Row<D>], numbers: &[usize], s: &State<D>) -> bool
+        ensures { result ≡ list_any (covers_in (values_of D.Domain.own D.eq) self.now rows.now numbers.now s.now) self.now.groups.items }
+    {
+        self.groups
+            .iter()
+            .any(|group| self.covers_in(rows, numbers, s, group))
+    }
+
+    // A group of so many holders at which a state has numbers, and their digest.
+    fn group_of<D: Domain>(&self, s: &State<D>, count: usize) -> Option<(usize, u64)>
+        ensures { IfSome result (λ r. Any (λ g. (g.number ≡ r.0) × (told_at (values_of D.Domain.own D.eq) g.holders.items s.now ≡ Told.Numbers r.1)) self.now.groups.items) }
+    {
+        for group in &self.groups {
+            if group.holders.len() == count {
+                if let Told::Numbers(digest) = told_at(group.holders.as_slice(), s) {
+                    return Some((group.number, digest));
+                }
+            }
+        }
+        None
+    }
+
+    // The places under a key, taken out.
+    fn take(&mut self, group: usize, told: Told) -> Vec<usize>
+        ensures places { result.items ≡ places_at self.old (group, told) }
+        ensures groups { self.new.groups ≡ self.old.groups }
+        ensures others { (key : ℕ × Told) → same_key (group, told) key ≡ false → places_at self.new key ≡ places_at self.old key }
+    {
+        let alloc = *self.groups.allocator();
+        match self.places.swap_remove(&(group, told)) {
+            Some(places) => places,
+            None => Vec::new(alloc),
+        }
+    }
+
+    // One place more under a key.
+    fn put(&mut self, group: usize, told: Told, place: usize) -> Result<(), NoMemory>
+        ensures groups { self.new.groups ≡ self.old.groups }
+        ensures has { OnOk result (Contains (places_at self.new (group, told)) place) }
+        ensures kept { OnOk result ((key : ℕ × Told) (p : ℕ) → Contains (places_at self.old key) p → Contains (places_at self.new key) p) }
+    {
+        let mut places = self.take(group, told);
+        places.push(place)?;
+        self.places.insert((group, told), places)?;
+        Ok(())
+    }
+
+    // One place more in a group.
+    fn put_in(&mut self, group: usize, digest: u64, place: usize) -> Result<(), NoMemory>
+        ensures groups { self.new.groups ≡ self.old.groups }
+        ensures by_numbers { OnOk result (Contains (places_at self.new (group, Told.Numbers digest)) place) }
+        ensures by_group { OnOk result (Contains (places_at self.new (group, Told.Unclear)) place) }
+        ensures kept { OnOk result ((key : ℕ × Told) (p : ℕ) → Contains (places_at self.old key) p → Contains (places_at self.new key) p) }
+    {
+        self.put(group, Told::Numbers(digest), place)?;
+        self.put(group, Told::Unclear, place)?;
+        Ok(())
+    }
+
+    // A group more, with one place of a state that has these numbers at its holders.
+    fn push_group<D: Domain>(
+        &mut self,
+        holders: Vec<Holder>,
+        digest: u64,
+        place: usize,
+        s: &State<D>,
+    ) -> Result<(), NoMemory>
+        requires { told_at (values_of D.Domain.own D.eq) holders.items s.now ≡ Told.Numbers digest }
+        ensures has { OnOk result (HasPlace (values_of D.Domain.own D.eq) self.new place s.now) }
+        ensures kept { OnOk result ((p : ℕ) (t : Known D) → HasPlace (values_of D.Domain.own D.eq) self.old p t → HasPlace (values_of D.Domain.own D.eq) self.new p t) }
+    {
+        let _ = s;
+        let number = self.groups.len();
+        self.put_in(number, digest, place)?;
+        self.groups.push(Group { number, holders })?;
+        Ok(())
+    }
+
+    /// One row more, at a place among the rows of its location.
+    pub fn add<D: Domain>(&mut self, place: usize, s: &State<D>) -> Result<(), NoMemory>
+        ensures has { OnOk result (HasPlace (values_of D.Domain.own D.eq) self.new place s.now) }
+        ensures kept { OnOk result ((p : ℕ) (t : Known D) → HasPlace (values_of D.Domain.own D.eq) self.old p t → HasPlace (values_of D.Domain.own D.eq) self.new p t) }
+    {
+        let alloc = *self.groups.allocator();
+        let holders = holders_told(alloc, s)?;
+        match self.group_of(s, holders.len()) {
+            Some((group, digest)) => {
+                self.put_in(group, digest, place)?;
+                Ok(())
+            }
+            None => {
+                let (holders, digest) = sure(holders, s);
+                self.push_group(holders, digest, place, s)
+            }
+        }
+    }
+}
+
+/// An index of the rows of these numbers, by their places among them.
+pub fn index_of<D: Domain>(
+    alloc: Global,
+    rows: &[Row<D>],
+    numbers: &[usize],
+) -> Result<RowIndex, NoMemory>
+    ensures { IfOk result (λ index. (place : ℕ) (row : LogRow (Known D)) → row_nth rows.now numbers.now place ≡ Some row → HasPlace (values_of D.Domain.own D.eq) index place row.state) }
+{
+    let mut index = RowIndex::new(alloc);
+    for place in 0..numbers.len() {
+        if let Some(row) = row_nth(rows, numbers, place) {
+            index.add(place, row.state())?;
+        }
+    }
+    Ok(index)
+}
