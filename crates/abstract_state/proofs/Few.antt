@@ -200,6 +200,6 @@ module _ {D : Type 0} (d : Values D) where
         let same : widened_value d k (seen_of d states) ≡ widened_value d k [] =
         λ i h v. (value-stays (seen_of d states) h v (counted-stays (seen_of d states) h v (rivals h v)) ∙ sym (value-stays [] h v (counted-stays [] h v some))) i in
         ap (λ (w : Holder → D → D). record s {
-            regs = fold (λ g r. with_register g r (w (Register r) (register g r))) s.regs register_numbers;
-            parts = record (s.parts) { facts = filter (λ f. not (d.rank f.value == 0)) (map (λ (f : Fact D). record f { value = w (holder_of f) f.value }) s.parts.facts) };
-          }) same
+          regs = fold (λ g r. with_register g r (w (Register r) (register g r))) s.regs register_numbers;
+          parts = record (s.parts) { facts = filter (λ f. not (d.rank f.value == 0)) (map (λ (f : Fact D). record f { value = w (holder_of f) f.value }) s.parts.facts) };
+        }) same

@@ -9,9 +9,7 @@ mod laws;
 mod log;
 mod post;
 mod reading;
-mod row_index;
 mod site;
-mod told;
 mod visits;
 
 pub use automaton::automaton_of;

@@ -1,114 +1,152 @@
-ghost use Rattle.std.specs.Prelude.{◌≡◌, ◌∷◌, ◌++◌, [], List, None, IfOk, OnOk, length};
+ghost use Rattle.std.specs.Prelude.{◌≡◌, ◌∷◌, ◌++◌, [], List, None, IfOk, OnOk, option_map, slice_get};
+ghost use Rattle.std.specs.Option.{option_map_or};
 ghost use Rattle.std.specs.List.{list_any};
 ghost use Rattle.domain_laws.specs.Made.{values_of};
-ghost use Rattle.abstract_state.specs.Widening.{seen_with, widened_state};
-ghost use Rattle.abstract_state.specs.State.{Known};
-ghost use Rattle.flow_worklist.specs.Covering.{covers_at};
-ghost use Rattle.flow_worklist.specs.Exploring.{IsOf};
-ghost use Rattle.flow_worklist.specs.Grouping.{IsIndexOf};
+ghost use Rattle.flow_log.specs.Log.{states_at};
+ghost use Rattle.abstract_state.specs.State.{IsWellState, Known};
+ghost use Rattle.abstract_state.specs.Widening.{seen_of, seen_with};
+ghost use Rattle.flow_worklist.specs.Analysis.{widened_by};
+ghost use Rattle.flow_worklist.specs.Covering.{covers_at, states_of};
+ghost use Rattle.flow_worklist.specs.Exploring.{IsOf, IsSeenOf, seen_in};
 
 use crate::Row;
 use crate::reading::Reading;
-use crate::row_index::{RowIndex, covers_any, index_of};
 use abstract_state::{Seen, State};
 use bit_words::NoMemory;
 use domain_laws::Domain;
 use image_loader::Image;
-use partitioned_memory::{Area, Spot};
 use std::alloc::Global;
 
-/// What is kept of a location: the numbers of its rows, in order, the values that their states hold, what the image's bytes there begin with, and
-/// where there are many rows an index of them.
+/// What is kept of a location: the numbers of its rows, in order, what the image's bytes there begin with, and where there are many rows, the values that
+/// their states hold.
 #[derive(Drop)]
 pub struct Visits<D: Domain> {
     pub numbers: Vec<usize>,
-    pub seen: Seen<D>,
     pub reading: Reading,
-    pub index: Option<RowIndex>,
+    pub seen: Option<Box<Seen<D>>>,
 }
-
-// From so many rows on they are indexed. To walk a few costs less than to make an index.
-const INDEXED: usize = 32;
-
-// A place at which a state's facts are asked for, of which the answer says that they ascend.
-const FIRST: Spot = Spot {
-    area: Area::Image,
-    low: 0,
-};
 
 impl<D: Domain> Visits<D> {
     /// No row yet; takes no memory.
     pub fn new(alloc: Global, image: &Image, at: u32) -> Visits<D>
         ensures numbers { result.numbers.items ≡ [] }
-        ensures seen { result.seen ≡ [] }
-        ensures index { result.index ≡ None }
+        ensures seen { seen_in result ≡ None }
     {
         Visits {
             numbers: Vec::new(alloc),
-            seen: Seen::new(alloc),
             reading: Reading::of(image.fetch(at)),
-            index: None,
+            seen: None,
         }
     }
 
     /// Whether one of these rows covers a state.
-    pub fn covers(&self, at: u32, rows: &[Row<D>], s: &State<D>) -> bool
-        requires { IsOf (values_of D.Domain.own D.eq) self.now at rows.now }
+    pub fn covers(&self, rows: &[Row<D>], s: &State<D>) -> bool
         ensures { result ≡ list_any (covers_at (values_of D.Domain.own D.eq) rows.now s.now) self.now.numbers.items }
     {
-        match &self.index {
-            Some(index) => {
-                let _facts = s.parts().fact_spots().get(&FIRST);
-                index.covers(rows, &self.numbers, s)
-            }
-            None => covers_any(rows, &self.numbers, s),
-        }
+        self.numbers
+            .iter()
+            .any(|number| covers_at(rows, s, *number))
     }
 
-    /// A state widened by what they hold.
-    pub fn widened(&self, k: u32, s: State<D>) -> Result<State<D>, NoMemory>
-        ensures { IfOk result (λ widened. widened ≡ widened_state (values_of D.Domain.own D.eq) k self.now.seen s) }
-    {
-        s.widen(k, &self.seen)
-    }
-
-    /// An index of the rows, where there are many and none is.
-    pub fn index_many(&mut self, alloc: Global, at: u32, rows: &[Row<D>]) -> Result<(), NoMemory>
+    /// A state widened by what they hold. Where fewer than `k` rows are, none of its values is raised, and what they hold is not kept.
+    pub fn widened(
+        &mut self,
+        alloc: Global,
+        at: u32,
+        rows: &[Row<D>],
+        k: u32,
+        s: State<D>,
+    ) -> Result<State<D>, NoMemory>
         requires { IsOf (values_of D.Domain.own D.eq) self.old at rows.now }
-        ensures { OnOk result (IsOf (values_of D.Domain.own D.eq) self.new at rows.now) }
+        ensures widened { IfOk result (λ widened. widened ≡ widened_by (values_of D.Domain.own D.eq) k (states_at at rows.now) s) }
+        ensures well { IfOk result (IsWellState (values_of D.Domain.own D.eq)) }
+        ensures kept { OnOk result (IsOf (values_of D.Domain.own D.eq) self.new at rows.now) }
     {
-        if self.index.is_none() && INDEXED <= self.numbers.len() {
-            let index = index_of(alloc, rows, &self.numbers)?;
-            self.index = Some(index);
+        if self.numbers.len() < k as usize {
+            return s.widen(k, &Seen::new(alloc));
         }
-        Ok(())
+        let seen = self.take_seen(alloc, at, rows)?;
+        let widened = s.widen(k, &seen)?;
+        self.seen = Some(seen);
+        Ok(widened)
+    }
+
+    // What the states of these rows hold, taken out; made, where it is not kept.
+    fn take_seen(
+        &mut self,
+        alloc: Global,
+        at: u32,
+        rows: &[Row<D>],
+    ) -> Result<Box<Seen<D>>, NoMemory>
+        requires { IsOf (values_of D.Domain.own D.eq) self.old at rows.now }
+        ensures seen { IfOk result (λ seen. seen.value ≡ seen_of (values_of D.Domain.own D.eq) (states_at at rows.now)) }
+        ensures numbers { self.new.numbers ≡ self.old.numbers }
+    {
+        match self.seen.take() {
+            Some(seen) => Ok(seen),
+            None => {
+                let seen = seen_of(alloc, rows, &self.numbers)?;
+                Ok(Box::new(alloc, seen)?)
+            }
+        }
     }
 
     /// One row more, with its number and its state.
     pub fn add(&mut self, number: usize, s: &State<D>) -> Result<(), NoMemory>
         ensures numbers { OnOk result (self.new.numbers.items ≡ self.old.numbers.items ++ number ∷ []) }
-        ensures seen { OnOk result (self.new.seen ≡ seen_with (values_of D.Domain.own D.eq) s.now self.old.seen) }
-        ensures index { OnOk result ((states : List (Known D)) → length states ≡ length self.old.numbers.items → IsIndexOf (values_of D.Domain.own D.eq) self.old.index states → IsIndexOf (values_of D.Domain.own D.eq) self.new.index (states ++ s.now ∷ [])) }
+        ensures seen { OnOk result ((states : List (Known D)) → IsSeenOf (values_of D.Domain.own D.eq) (seen_in self.old) states → IsSeenOf (values_of D.Domain.own D.eq) (seen_in self.new) (states ++ s.now ∷ [])) }
     {
-        let place = self.numbers.len();
-        self.seen.add(s)?;
-        add_to(&mut self.index, place, s)?;
+        see(&mut self.seen, s)?;
         self.numbers.push(number)?;
         Ok(())
     }
 }
 
-// One row more in an index, where there is one.
-fn add_to<D: Domain>(
-    index: &mut Option<RowIndex>,
-    place: usize,
-    s: &State<D>,
-) -> Result<(), NoMemory>
-    ensures { OnOk result ((states : List (Known D)) → length states ≡ place → IsIndexOf (values_of D.Domain.own D.eq) index.old states → IsIndexOf (values_of D.Domain.own D.eq) index.new (states ++ s.now ∷ [])) }
+// Whether the row of a number covers a state.
+fn covers_at<D: Domain>(rows: &[Row<D>], s: &State<D>, number: usize) -> bool
+    ensures { result ≡ covers_at (values_of D.Domain.own D.eq) rows.now s.now number }
 {
-    match index {
-        Some(index) => {
-            index.add(place, s)?;
+    match rows.get(number) {
+        Some(row) => row.state().covers(s),
+        None => false,
+    }
+}
+
+// What the states of the rows of these numbers hold.
+fn seen_of<D: Domain>(
+    alloc: Global,
+    rows: &[Row<D>],
+    numbers: &[usize],
+) -> Result<Seen<D>, NoMemory>
+    ensures { IfOk result (λ seen. seen ≡ seen_of (values_of D.Domain.own D.eq) (states_of rows.now numbers.now)) }
+{
+    let mut seen = Seen::new(alloc);
+    for number in numbers {
+        see_row(&mut seen, rows, *number)?;
+    }
+    Ok(seen)
+}
+
+// What the state of the row of a number holds taken in, where there is one.
+fn see_row<D: Domain>(seen: &mut Seen<D>, rows: &[Row<D>], number: usize) -> Result<(), NoMemory>
+    ensures { OnOk result (seen.new ≡ option_map_or (λ row. seen_with (values_of D.Domain.own D.eq) row.state seen.old) (slice_get rows.now number) seen.old) }
+{
+    match rows.get(number) {
+        Some(row) => {
+            seen.add(row.state())?;
+            Ok(())
+        }
+        None => Ok(()),
+    }
+}
+
+// What a state holds taken in, where what the others hold is kept.
+fn see<D: Domain>(seen: &mut Option<Box<Seen<D>>>, s: &State<D>) -> Result<(), NoMemory>
+    ensures { OnOk result ((states : List (Known D)) → IsSeenOf (values_of D.Domain.own D.eq) (option_map (λ b. b.value) seen.old) states → IsSeenOf (values_of D.Domain.own D.eq) (option_map (λ b. b.value) seen.new) (states ++ s.now ∷ [])) }
+{
+    match seen {
+        Some(seen) => {
+            seen.add(s)?;
             Ok(())
         }
         None => Ok(()),

@@ -16,16 +16,14 @@ put-requires-clause-taken g c =
     let at = c.args.at in
     let row = c.new-row.result in
     let rows = c.args.self.now.rows.items in
-    let kept = c.index_many.new.self in
+    let kept = c.args.visits in
     let located : row.location ≡ at = ap (λ r. r.location) c.new-row.ensures in
     let stated : row.state ≡ c.args.state = ap (λ r. r.state) c.new-row.ensures in
     let P : List (Row (Known g.row.D.Denot)) → Type 0 = λ l. IsOf d c.add.new.self at l in
     let count : c.len-number.result ≡ length rows = search rules in
     let numbers = c.in_ok-add.ensures.numbers ∙ ap (λ n. kept.numbers.items ++ n ∷ []) count in
-    let Q : List (Row (Known g.row.D.Denot)) → Type 0 = λ l. IsOf d kept at l in
-    let before : IsOf d kept at rows = subst Q c.deref.ensures.value c.in_ok-index_many.ensures in
     λ κs h. subst P (sym c.in_ok-push.ensures.items)
-        (is_more d kept c.add.new.self at rows row c.args.state stated (eq-eqb row.location at located) before numbers c.in_ok-add.ensures.seen c.in_ok-add.ensures.index)
+    (is_more d kept c.add.new.self at rows row c.args.state stated (eq-eqb row.location at located) c.requires.well c.requires.taken numbers c.in_ok-add.ensures.seen)
 
 pub put-requires-clause-others : goal.put-requires-clause-others
 put-requires-clause-others g c =
