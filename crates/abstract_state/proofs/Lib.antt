@@ -17,3 +17,4 @@ pub mod Storing
 pub mod AnyBytes
 pub mod Seeing
 pub mod Building
+pub mod Few

@@ -32,7 +32,7 @@ width-some B16 low e = let h = int_le-true _ low e in omega (arith, ints)
 width-some B32 low e = let h = int_le-true _ low e in omega (arith, ints)
 
 -- no fact comes before itself
-not-before : {D : Type 0} (f : Fact D) → fact_before f f ≡ true → ⊥
+pub not-before : {D : Type 0} (f : Fact D) → fact_before f f ≡ true → ⊥
 unfolding is_before
 not-before f e =
     width-some f.w f.low (sym (ap (λ o. by_area o (int_le (interval_of_fact f).end (interval_of_fact f).low)) (area_cmp-refl f.area)) ∙ e)

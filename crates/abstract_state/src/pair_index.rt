@@ -1,4 +1,4 @@
-ghost use Rattle.std.specs.Prelude.{◌≡◌, ◌∷◌, ◌++◌, [], false, IfOk, OnErr, OnOk, count_by};
+ghost use Rattle.std.specs.Prelude.{◌≡◌, ◌==◌, ◌∷◌, ◌++◌, [], false, IfOk, OnErr, OnOk, count_by, length};
 ghost use Rattle.std.specs.List.{list_any};
 ghost use Rattle.domain_laws.specs.Made.{values_of};
 ghost use Rattle.abstract_state.specs.Widening.{is_pair, is_rival, with_pair, with_pairs};
@@ -39,6 +39,12 @@ impl<D: Domain> PairIndex<D> {
             pairs: IndexSet::new(alloc),
             counts: IndexMap::new(alloc),
         }
+    }
+
+    pub(crate) fn is_empty(&self) -> bool
+        ensures { result ≡ (length self.now == 0) }
+    {
+        self.pairs.len() == 0
     }
 
     // An index of these, each once.

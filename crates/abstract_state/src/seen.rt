@@ -1,4 +1,4 @@
-ghost use Rattle.std.specs.Prelude.{◌≡◌, ℕ, take, [], OnOk, OnErr, IfOk, ◌++◌, map, count_by};
+ghost use Rattle.std.specs.Prelude.{◌≡◌, ◌==◌, ℕ, take, [], OnOk, OnErr, IfOk, ◌++◌, map, count_by, length};
 ghost use Rattle.std.specs.List.{list_any};
 ghost use Rattle.domain_laws.specs.Made.{values_of};
 ghost use Rattle.abstract_state.specs.Widening.{IsPartlySeen, held, held_registers, holder_of, is_pair, is_rival, same_holder, seen_with, stays, widened_value, with_pair, with_pairs};
@@ -142,6 +142,16 @@ impl<D: Domain> Seen<D> {
         Seen {
             few: Vec::new(alloc),
             index: None,
+        }
+    }
+
+    /// Whether nothing was seen.
+    pub(crate) fn is_empty(&self) -> bool
+        ensures { result ≡ (length self.now == 0) }
+    {
+        match &self.index {
+            Some(index) => index.is_empty(),
+            None => self.few.is_empty(),
         }
     }
 

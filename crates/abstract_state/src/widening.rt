@@ -1,7 +1,8 @@
 ghost use Rattle.std.specs.Prelude.{◌≡◌, IfOk, OnOk, fold};
 ghost use Rattle.partitioned_memory.specs.Lists.{Every};
 ghost use Rattle.domain_laws.specs.Made.{values_of};
-ghost use Rattle.partitioned_memory.specs.Well.{IsWellFact, MayHold};
+ghost use Rattle.partitioned_memory.specs.Well.{IsWell, IsWellFact, MayHold};
+ghost use Rattle.abstract_state.specs.State.{IsWellState};
 ghost use Rattle.abstract_state.specs.Widening.{widened_facts, widened_registers, widened_state, with_widened_fact};
 
 use crate::seen::{Holder, Seen, holder_of};
@@ -53,13 +54,18 @@ fn put_all<D: Domain>(
     Ok(())
 }
 
+// Where nothing was seen, nothing changes.
 fn widened_parts<D: Domain>(
     mut parts: Parts<D>,
     k: u32,
     seen: &Seen<D>,
 ) -> Result<Parts<D>, NoMemory>
+    requires { IsWell (values_of D.Domain.own D.eq) parts }
     ensures { IfOk result (λ widened. widened ≡ record parts { facts = widened_facts (values_of D.Domain.own D.eq) k seen.now parts.facts }) }
 {
+    if 0 < k && seen.is_empty() {
+        return Ok(parts);
+    }
     let facts = parts.copy_facts()?;
     put_all(&mut parts, k, seen, &facts)?;
     Ok(parts)
@@ -67,10 +73,11 @@ fn widened_parts<D: Domain>(
 
 impl<D: Domain> State<D> {
     /// This state made to stand for more. Each register and each fact by itself: its value is raised until it was seen there,
-    /// has rank 0, or has a rank of which fewer than `k` values were seen there. A fact that is raised to rank 0 goes.
+    /// has rank 0, or has a rank of which fewer than `k` values were seen there. A fact that is raised to rank 0 goes. The answer is well.
     #[tactic(auto, unfolding(crate::specs::Widening::widened_state))]
     pub fn widen(self, k: u32, seen: &Seen<D>) -> Result<State<D>, NoMemory>
-        ensures { IfOk result (λ s. s ≡ widened_state (values_of D.Domain.own D.eq) k seen.now self) }
+        ensures widened { IfOk result (λ s. s ≡ widened_state (values_of D.Domain.own D.eq) k seen.now self) }
+        ensures well { IfOk result (IsWellState (values_of D.Domain.own D.eq)) }
     {
         let State {
             regs,

@@ -1,18 +1,21 @@
 -- What is kept of each location stays true as rows come.
-use Rattle.std.proofs.Common.{◌≡◌, ℕ, Bool, true, false, List, [], ◌∷◌, ◌++◌, length, map, cond, Option, Some, None, refl, sym, ◌∙◌, ap, subst, ◌==◌, ◌||◌}
-use Rattle.std.specs.Prelude.{fold, nat_eq, slice_get}
-use Rattle.std.specs.List.{list_any}
+use Rattle.std.proofs.Common.{◌≡◌, ℕ, suc, Bool, true, false, List, [], ◌∷◌, ◌++◌, length, map, cond, Option, Some, None, refl, sym, ◌∙◌, ap, subst, ◌==◌, ◌||◌}
+use Rattle.std.specs.Prelude.{fold, nat_eq, option_map, slice_get}
+use Rattle.std.specs.List.{cons_option, list_any}
 use Rattle.std.specs.Option.{option_map_or}
 use Rattle.std.proofs.lemmas.Bool.{eqb-true}
 use Rattle.std.proofs.lemmas.List.{append-nil, map-append}
 use Rattle.std.proofs.lemmas.List.Elements.{filter-append}
 use Rattle.domain_laws.specs.Laws.{Values}
+use Rattle.partitioned_memory.specs.Lists.{Every}
 use Rattle.flow_log.specs.Log.{Row, row_after, rows_at, states_at, with_row}
 use Rattle.flow_log.proofs.Members.{slice_get-append, slice_get-last}
-use Rattle.abstract_state.specs.State.{Known, covers_state}
+use Rattle.abstract_state.specs.declared.seen.Holder.{Holder}
+use Rattle.abstract_state.specs.State.{IsWellState, Known, covers_state}
 use Rattle.abstract_state.specs.Widening.{seen_of, seen_with}
 use Rattle.flow_worklist.specs.declared.visits.Visits.{Visits}
-use Rattle.flow_worklist.specs.Exploring.{covers_at, IsOf, IsKept}
+use Rattle.flow_worklist.specs.Covering.{covers_at, covers_by, states_of}
+use Rattle.flow_worklist.specs.Exploring.{IsOf, IsKept, IsSeenOf, seen_in}
 
 fold_more : {A X : Type 0} (f : A → X → A) (a : A) (xs : List X) (x : X) → fold f a (xs ++ x ∷ []) ≡ f (fold f a xs) x
 fold_more f a [] x = refl
@@ -37,6 +40,21 @@ numbers_more xs x ns found e =
     ∙ ap (λ o. map Some found ++ o ∷ []) (slice_get-last xs x)
     ∙ sym (map-append Some found (x ∷ []))
 
+-- a fact of one element more
+every_more : {X : Type 0} (P : X → Type 0) (xs : List X) (x : X) → Every P xs → P x → Every P (xs ++ x ∷ [])
+every_more P [] x h p = (p, tt)
+every_more P (y ∷ xs) x h p = (h.0, every_more P xs x h.1 p)
+
+-- the states of the rows that numbers stand for
+pub states_found : {S : Type 0} (rows : List (Row S)) (ns : List ℕ) (found : List (Row S)) → map (slice_get rows) ns ≡ map Some found → states_of rows ns ≡ map (λ (row : Row S). row.state) found
+states_found rows [] [] e = refl
+states_found rows [] (r ∷ found) e = absurd (cc)
+states_found rows (n ∷ ns) [] e = absurd (cc)
+states_found rows (n ∷ ns) (r ∷ found) e =
+    let here : slice_get rows n ≡ Some r = cc in
+    let rest : map (slice_get rows) ns ≡ map Some found = cc in
+    ap (λ o. cons_option (option_map (λ row. row.state) o) (states_of rows ns)) here ∙ ap (λ l. r.state ∷ l) (states_found rows ns found rest)
+
 -- a row more is at its own location, and at no other
 pub row_here : {S : Type 0} (row : Row S) (at : ℕ) (rows : List (Row S)) → (row.location == at) ≡ true → rows_at at (rows ++ row ∷ []) ≡ rows_at at rows ++ row ∷ []
 row_here row at rows is = filter-append (λ r. r.location == at) rows (row ∷ []) ∙ ap (λ c. rows_at at rows ++ cond c (row ∷ []) []) is
@@ -50,32 +68,45 @@ unfolding states_at
 states_are at rows = refl
 
 module _ {D : Type 0} (d : Values D) where
-  seen_of-more : (states : List (Known D)) (s : Known D) → seen_of d (states ++ s ∷ []) ≡ seen_with d s (seen_of d states)
+  pub seen_of-more : (states : List (Known D)) (s : Known D) → seen_of d (states ++ s ∷ []) ≡ seen_with d s (seen_of d states)
   unfolding seen_of
   seen_of-more states s = fold_more (λ seen t. seen_with d t seen) [] states s
 
-  seen_of-none : seen_of d [] ≡ []
-  unfolding seen_of
-  seen_of-none = refl
-
   -- nothing is kept of a location that has no row
-  pub is_new : (v : Visits D) (at : ℕ) (rows : List (Row (Known D))) → v.numbers.items ≡ [] → v.seen ≡ [] → rows_at at rows ≡ [] → IsOf d v at rows
+  pub is_new : (v : Visits D) (at : ℕ) (rows : List (Row (Known D))) → v.numbers.items ≡ [] → seen_in v ≡ None → rows_at at rows ≡ [] → IsOf d v at rows
   is_new v at rows none unseen empty = record {
     numbers = ap (map (slice_get rows)) none ∙ sym (ap (map Some) empty);
-    seen = unseen ∙ sym seen_of-none ∙ ap (seen_of d) (sym (states_are at rows ∙ ap (map (λ (row : Row (Known D)). row.state)) empty));
+    well = subst (Every (IsWellState d)) (sym (states_are at rows ∙ ap (map (λ (row : Row (Known D)). row.state)) empty)) tt;
+    seen = (let P : Option (List (Holder × D)) → Type 0 = λ o. IsSeenOf d o (states_at at rows) in subst P (sym unseen) tt);
   }
 
+  -- as many states as numbers
+  count_is : (rows : List (Row (Known D))) (ns : List ℕ) (found : List (Row (Known D))) → map (slice_get rows) ns ≡ map Some found
+      → length (map (λ (row : Row (Known D)). row.state) found) ≡ length ns
+  count_is rows [] [] e = refl
+  count_is rows [] (r ∷ found) e = absurd (cc)
+  count_is rows (n ∷ ns) [] e = absurd (cc)
+  count_is rows (n ∷ ns) (r ∷ found) e =
+      let more : map (slice_get rows) ns ≡ map Some found = cc in
+      ap (λ n. suc n) (count_is rows ns found more)
+
+  pub states_counted : (v : Visits D) (at : ℕ) (rows : List (Row (Known D))) → IsOf d v at rows → length (states_at at rows) ≡ length v.numbers.items
+  states_counted v at rows h = ap length (states_are at rows) ∙ count_is rows v.numbers.items (rows_at at rows) h.numbers
+
   -- a row more at the location
-  pub is_more : (v w : Visits D) (at : ℕ) (rows : List (Row (Known D))) (row : Row (Known D)) → (row.location == at) ≡ true → IsOf d v at rows
-      → w.numbers.items ≡ v.numbers.items ++ length rows ∷ [] → w.seen ≡ seen_with d row.state v.seen → IsOf d w at (rows ++ row ∷ [])
-  is_more v w at rows row located h numbers seen =
+  pub is_more : (v w : Visits D) (at : ℕ) (rows : List (Row (Known D))) (row : Row (Known D)) (s : Known D) → row.state ≡ s → (row.location == at) ≡ true → IsWellState d s → IsOf d v at rows
+      → w.numbers.items ≡ v.numbers.items ++ length rows ∷ []
+      → ((states : List (Known D)) → IsSeenOf d (seen_in v) states → IsSeenOf d (seen_in w) (states ++ s ∷ []))
+      → IsOf d w at (rows ++ row ∷ [])
+  is_more v w at rows row s stated located well h numbers seen =
       let states : states_at at (rows ++ row ∷ []) ≡ states_at at rows ++ row.state ∷ [] =
       states_are at (rows ++ row ∷ []) ∙ ap (map (λ (r : Row (Known D)). r.state)) (row_here row at rows located)
       ∙ map-append (λ (r : Row (Known D)). r.state) (rows_at at rows) (row ∷ []) ∙ ap (λ l. l ++ row.state ∷ []) (sym (states_are at rows)) in
       record {
         numbers = ap (map (slice_get (rows ++ row ∷ []))) numbers ∙ numbers_more rows row v.numbers.items (rows_at at rows) h.numbers
             ∙ sym (ap (map Some) (row_here row at rows located));
-        seen = seen ∙ ap (seen_with d row.state) h.seen ∙ sym (seen_of-more (states_at at rows) row.state) ∙ ap (seen_of d) (sym states);
+        well = subst (Every (IsWellState d)) (ap (λ t. states_at at rows ++ t ∷ []) (sym stated) ∙ sym states) (every_more (IsWellState d) (states_at at rows) s h.well well);
+        seen = subst (IsSeenOf d (seen_in w)) (ap (λ t. states_at at rows ++ t ∷ []) (sym stated) ∙ sym states) (seen (states_at at rows) h.seen);
       }
 
   -- a row more elsewhere
@@ -84,9 +115,12 @@ module _ {D : Type 0} (d : Values D) where
   is_elsewhere None q rows row apart h = row_there row q rows apart ∙ h
   is_elsewhere (Some v) q rows row apart h =
       let there : rows_at q (rows ++ row ∷ []) ≡ rows_at q rows = row_there row q rows apart in
+      let same : states_at q rows ≡ states_at q (rows ++ row ∷ []) =
+      states_are q rows ∙ sym (ap (map (λ (r : Row (Known D)). r.state)) there) ∙ sym (states_are q (rows ++ row ∷ [])) in
       record {
         numbers = numbers_kept rows (row ∷ []) v.numbers.items (rows_at q rows) h.numbers ∙ sym (ap (map Some) there);
-        seen = h.seen ∙ ap (seen_of d) (states_are q rows ∙ sym (ap (map (λ (r : Row (Known D)). r.state)) there) ∙ sym (states_are q (rows ++ row ∷ [])));
+        well = subst (Every (IsWellState d)) same h.well;
+        seen = subst (IsSeenOf d (seen_in v)) same h.seen;
       }
 
   -- what is kept put back at a location

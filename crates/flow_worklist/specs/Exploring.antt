@@ -1,12 +1,13 @@
 -- What contracts see of a log that grows.
-use Rattle.std.specs.Prelude.{ℕ, ◌≡◌, Bool, false, List, [], Option, Some, None, map, nat_eq, slice_get, if◌then◌else◌}
-use Rattle.std.specs.Option.{option_map_or}
+use Rattle.std.specs.Prelude.{ℕ, ◌≡◌, ⊤, false, List, [], Option, Some, None, map, nat_eq, option_map, slice_get, if◌then◌else◌}
 use Rattle.std.specs.HashMap.{get}
 use Rattle.domain_laws.specs.Laws.{Values}
+use Rattle.partitioned_memory.specs.Lists.{Every}
 use Rattle.flow_log.specs.declared.cause.Cause.{Cause}
 use Rattle.flow_log.specs.declared.cause.Cause.TheVariants as causes
 use Rattle.flow_log.specs.Log.{Row, rows_at, states_at}
-use Rattle.abstract_state.specs.State.{Known, covers_state}
+use Rattle.abstract_state.specs.declared.seen.Holder.{Holder}
+use Rattle.abstract_state.specs.State.{IsWellState, Known}
 use Rattle.abstract_state.specs.Widening.{seen_of}
 use Rattle.flow_worklist.specs.declared.visits.Visits.{Visits}
 use Rattle.flow_worklist.specs.declared.exploring.Exploration.{Exploration}
@@ -20,15 +21,20 @@ log_in e = record { rows = e.rows.items; edges = e.edges.items; causes = e.cause
 abbrev pub cause_unexpanded : {S : Type 0} → Row S → Option Cause
 cause_unexpanded row = if row.expanded then None else Some causes.Budget
 
-module _ {D : Type 0} (d : Values D) where
-  -- whether the row of a number covers a state
-  abbrev pub covers_at : List (Row (Known D)) → Known D → ℕ → Bool
-  covers_at rows s number = option_map_or (λ row. covers_state d row.state s) (slice_get rows number) false
+abbrev pub seen_in : {D : Type 0} → Visits D → Option (List (Holder × D))
+seen_in v = option_map (λ b. b.value) v.seen
 
-  -- what the code keeps of a location: the numbers under which its rows stand, in order, and what their states hold
+module _ {D : Type 0} (d : Values D) where
+  -- what states hold, where it is kept
+  abbrev pub IsSeenOf : Option (List (Holder × D)) → List (Known D) → Type 0
+  IsSeenOf None states = ⊤
+  IsSeenOf (Some seen) states = seen ≡ seen_of d states
+
+  -- what the code keeps of a location: the numbers under which its rows stand, in order, and where there are many, what their states hold
   pub record IsOf (v : Visits D) (at : ℕ) (rows : List (Row (Known D))) : Type 0 where
     pub numbers : map (slice_get rows) v.numbers.items ≡ map Some (rows_at at rows)
-    pub seen : v.seen ≡ seen_of d (states_at at rows)
+    pub well : Every (IsWellState d) (states_at at rows)
+    pub seen : IsSeenOf (seen_in v) (states_at at rows)
 
   abbrev pub IsKept : Option (Visits D) → ℕ → List (Row (Known D)) → Type 0
   IsKept None at rows = rows_at at rows ≡ []

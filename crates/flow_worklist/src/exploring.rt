@@ -3,7 +3,7 @@ ghost use Rattle.std.specs.HashMap.{get};
 ghost use Rattle.domain_laws.specs.Made.{values_of};
 ghost use Rattle.flow_log.specs.Log.{first_log, row_after, with_notes, with_next_pair, with_next_pairs, with_row};
 ghost use Rattle.stub_file.specs.Stubs.{StatedStubs};
-ghost use Rattle.abstract_state.specs.State.{covers_state};
+ghost use Rattle.abstract_state.specs.State.{IsWellState, covers_state};
 ghost use Rattle.flow_worklist.specs.Analysis.{analysis_of, edge_by, image_log, widened_by};
 ghost use Rattle.flow_worklist.specs.Exploring.{IsIndexed, IsIndexedBut, IsOf, log_in};
 ghost use Rattle.flow_worklist.specs.PostOf.{IsPostOf, IsPostOfRow};
@@ -142,6 +142,7 @@ impl<D: Domain> Exploration<D> {
     ) -> Result<(), NoMemory>
         requires taken { IsOf (values_of D.Domain.own D.eq) visits at self.old.rows.items }
         requires others { IsIndexedBut (values_of D.Domain.own D.eq) at self.old }
+        requires well { IsWellState (values_of D.Domain.own D.eq) state }
         ensures rows { OnOk result (self.new.rows.items ≡ self.old.rows.items ++ row_after budget self.old.rows.items (Some parent) at state ∷ []) }
         ensures indexed { OnOk result (IsIndexed (values_of D.Domain.own D.eq) self.new) }
         ensures edges { self.new.edges ≡ self.old.edges }
@@ -167,6 +168,7 @@ impl<D: Domain> Exploration<D> {
     ) -> Result<(), NoMemory>
         requires taken { IsOf (values_of D.Domain.own D.eq) visits at self.old.rows.items }
         requires others { IsIndexedBut (values_of D.Domain.own D.eq) at self.old }
+        requires well { IsWellState (values_of D.Domain.own D.eq) state }
         ensures rows { OnOk result (self.new.rows.items ≡ with_row (covers_state (values_of D.Domain.own D.eq)) budget parent at state self.old.rows.items) }
         ensures indexed { OnOk result (IsIndexed (values_of D.Domain.own D.eq) self.new) }
         ensures edges { self.new.edges ≡ self.old.edges }
@@ -193,8 +195,8 @@ impl<D: Domain> Exploration<D> {
         ensures log { OnOk result (log_in self.new ≡ with_next_pair (covers_state (values_of D.Domain.own D.eq)) (widened_by (values_of D.Domain.own D.eq) limits.k) limits.budget number edge (edge.to, state) (log_in self.old)) }
         ensures indexed { OnOk result (IsIndexed (values_of D.Domain.own D.eq) self.new) }
     {
-        let visits = self.take(alloc, image, edge.to);
-        let widened = visits.widened(limits.k, state)?;
+        let mut visits = self.take(alloc, image, edge.to);
+        let widened = visits.widened(alloc, edge.to, &self.rows, limits.k, state)?;
         self.add_row(number, edge.to, widened, visits, limits.budget)?;
         self.edges.push(edge)?;
         Ok(())

@@ -1,8 +1,13 @@
-ghost use Rattle.std.specs.Prelude.{◌≡◌, ◌∷◌, ◌++◌, [], IfOk, OnOk};
+ghost use Rattle.std.specs.Prelude.{◌≡◌, ◌∷◌, ◌++◌, [], List, None, IfOk, OnOk, option_map, slice_get};
+ghost use Rattle.std.specs.Option.{option_map_or};
 ghost use Rattle.std.specs.List.{list_any};
 ghost use Rattle.domain_laws.specs.Made.{values_of};
-ghost use Rattle.abstract_state.specs.Widening.{seen_with, widened_state};
-ghost use Rattle.flow_worklist.specs.Exploring.{covers_at};
+ghost use Rattle.flow_log.specs.Log.{states_at};
+ghost use Rattle.abstract_state.specs.State.{IsWellState, Known};
+ghost use Rattle.abstract_state.specs.Widening.{seen_of, seen_with};
+ghost use Rattle.flow_worklist.specs.Analysis.{widened_by};
+ghost use Rattle.flow_worklist.specs.Covering.{covers_at, states_of};
+ghost use Rattle.flow_worklist.specs.Exploring.{IsOf, IsSeenOf, seen_in};
 
 use crate::Row;
 use crate::reading::Reading;
@@ -12,24 +17,25 @@ use domain_laws::Domain;
 use image_loader::Image;
 use std::alloc::Global;
 
-/// What is kept of a location: the numbers of its rows, in order, the values that their states hold, and what the image's bytes there begin with.
+/// What is kept of a location: the numbers of its rows, in order, what the image's bytes there begin with, and where there are many rows, the values that
+/// their states hold.
 #[derive(Drop)]
 pub struct Visits<D: Domain> {
     pub numbers: Vec<usize>,
-    pub seen: Seen<D>,
     pub reading: Reading,
+    pub seen: Option<Box<Seen<D>>>,
 }
 
 impl<D: Domain> Visits<D> {
     /// No row yet; takes no memory.
     pub fn new(alloc: Global, image: &Image, at: u32) -> Visits<D>
         ensures numbers { result.numbers.items ≡ [] }
-        ensures seen { result.seen ≡ [] }
+        ensures seen { seen_in result ≡ None }
     {
         Visits {
             numbers: Vec::new(alloc),
-            seen: Seen::new(alloc),
             reading: Reading::of(image.fetch(at)),
+            seen: None,
         }
     }
 
@@ -42,19 +48,55 @@ impl<D: Domain> Visits<D> {
             .any(|number| covers_at(rows, s, *number))
     }
 
-    /// A state widened by what they hold.
-    pub fn widened(&self, k: u32, s: State<D>) -> Result<State<D>, NoMemory>
-        ensures { IfOk result (λ widened. widened ≡ widened_state (values_of D.Domain.own D.eq) k self.now.seen s) }
+    /// A state widened by what they hold. Where fewer than `k` rows are, none of its values is raised, and what they hold is not kept.
+    pub fn widened(
+        &mut self,
+        alloc: Global,
+        at: u32,
+        rows: &[Row<D>],
+        k: u32,
+        s: State<D>,
+    ) -> Result<State<D>, NoMemory>
+        requires { IsOf (values_of D.Domain.own D.eq) self.old at rows.now }
+        ensures widened { IfOk result (λ widened. widened ≡ widened_by (values_of D.Domain.own D.eq) k (states_at at rows.now) s) }
+        ensures well { IfOk result (IsWellState (values_of D.Domain.own D.eq)) }
+        ensures kept { OnOk result (IsOf (values_of D.Domain.own D.eq) self.new at rows.now) }
     {
-        s.widen(k, &self.seen)
+        if self.numbers.len() < k as usize {
+            return s.widen(k, &Seen::new(alloc));
+        }
+        let seen = self.take_seen(alloc, at, rows)?;
+        let widened = s.widen(k, &seen)?;
+        self.seen = Some(seen);
+        Ok(widened)
+    }
+
+    // What the states of these rows hold, taken out; made, where it is not kept.
+    fn take_seen(
+        &mut self,
+        alloc: Global,
+        at: u32,
+        rows: &[Row<D>],
+    ) -> Result<Box<Seen<D>>, NoMemory>
+        requires { IsOf (values_of D.Domain.own D.eq) self.old at rows.now }
+        ensures seen { IfOk result (λ seen. seen.value ≡ seen_of (values_of D.Domain.own D.eq) (states_at at rows.now)) }
+        ensures numbers { self.new.numbers ≡ self.old.numbers }
+    {
+        match self.seen.take() {
+            Some(seen) => Ok(seen),
+            None => {
+                let seen = seen_of(alloc, rows, &self.numbers)?;
+                Ok(Box::new(alloc, seen)?)
+            }
+        }
     }
 
     /// One row more, with its number and its state.
     pub fn add(&mut self, number: usize, s: &State<D>) -> Result<(), NoMemory>
         ensures numbers { OnOk result (self.new.numbers.items ≡ self.old.numbers.items ++ number ∷ []) }
-        ensures seen { OnOk result (self.new.seen ≡ seen_with (values_of D.Domain.own D.eq) s.now self.old.seen) }
+        ensures seen { OnOk result ((states : List (Known D)) → IsSeenOf (values_of D.Domain.own D.eq) (seen_in self.old) states → IsSeenOf (values_of D.Domain.own D.eq) (seen_in self.new) (states ++ s.now ∷ [])) }
     {
-        self.seen.add(s)?;
+        see(&mut self.seen, s)?;
         self.numbers.push(number)?;
         Ok(())
     }
@@ -67,5 +109,46 @@ fn covers_at<D: Domain>(rows: &[Row<D>], s: &State<D>, number: usize) -> bool
     match rows.get(number) {
         Some(row) => row.state().covers(s),
         None => false,
+    }
+}
+
+// What the states of the rows of these numbers hold.
+fn seen_of<D: Domain>(
+    alloc: Global,
+    rows: &[Row<D>],
+    numbers: &[usize],
+) -> Result<Seen<D>, NoMemory>
+    ensures { IfOk result (λ seen. seen ≡ seen_of (values_of D.Domain.own D.eq) (states_of rows.now numbers.now)) }
+{
+    let mut seen = Seen::new(alloc);
+    for number in numbers {
+        see_row(&mut seen, rows, *number)?;
+    }
+    Ok(seen)
+}
+
+// What the state of the row of a number holds taken in, where there is one.
+fn see_row<D: Domain>(seen: &mut Seen<D>, rows: &[Row<D>], number: usize) -> Result<(), NoMemory>
+    ensures { OnOk result (seen.new ≡ option_map_or (λ row. seen_with (values_of D.Domain.own D.eq) row.state seen.old) (slice_get rows.now number) seen.old) }
+{
+    match rows.get(number) {
+        Some(row) => {
+            seen.add(row.state())?;
+            Ok(())
+        }
+        None => Ok(()),
+    }
+}
+
+// What a state holds taken in, where what the others hold is kept.
+fn see<D: Domain>(seen: &mut Option<Box<Seen<D>>>, s: &State<D>) -> Result<(), NoMemory>
+    ensures { OnOk result ((states : List (Known D)) → IsSeenOf (values_of D.Domain.own D.eq) (option_map (λ b. b.value) seen.old) states → IsSeenOf (values_of D.Domain.own D.eq) (option_map (λ b. b.value) seen.new) (states ++ s.now ∷ [])) }
+{
+    match seen {
+        Some(seen) => {
+            seen.add(s)?;
+            Ok(())
+        }
+        None => Ok(()),
     }
 }

@@ -1,5 +1,5 @@
 -- What is kept of the other locations is as it was.
-use Rattle.std.proofs.Common.{Option, List, sym, ap, subst}
+use Rattle.std.proofs.Common.{Option, List, sym, ◌∙◌, ap, subst}
 use Rattle.std.specs.Prelude.{nat_eq}
 use Rattle.std.specs.HashMap.{get}
 use Rattle.domain_laws.specs.Made.{values_of}
@@ -22,8 +22,14 @@ add_row-requires-clause-others g c =
     } in
     λ κs h. made
 
+pub widened-requires-after_bounds : goal.widened-requires-after_bounds
+widened-requires-after_bounds g c κs within =
+    let d = values_of g.D.Domain g.D.PartialEq.eq in
+    let Q : List (Row (Known g.row.D.Denot)) → Type 0 = λ rows. IsOf d c.take-visits.result c.args.edge.to rows in
+    subst Q (ap (λ v. v.items) (sym c.take-visits.ensures.rows) ∙ sym c.deref.ensures.value) c.take-visits.ensures.taken
+
 pub add_row-requires-clause-taken : goal.add_row-requires-clause-taken
 add_row-requires-clause-taken g c κs within =
     let d = values_of g.D.Domain g.D.PartialEq.eq in
-    let Q : List (Row (Known g.row.D.Denot)) → Type 0 = λ rows. IsOf d c.take-visits.result c.args.edge.to rows in
-    subst Q (sym (ap (λ v. v.items) c.take-visits.ensures.rows)) c.take-visits.ensures.taken
+    let Q : List (Row (Known g.row.D.Denot)) → Type 0 = λ rows. IsOf d c.widened.new.self c.args.edge.to rows in
+    subst Q c.deref.ensures.value c.in_ok-widened.ensures.kept

@@ -5,7 +5,7 @@ use Rattle.std.specs.List.{list_any}
 use Rattle.domain_laws.specs.Made.{values_of}
 use Rattle.flow_log.specs.Log.{Row}
 use Rattle.abstract_state.specs.State.{Known}
-use Rattle.flow_worklist.specs.Exploring.{covers_at}
+use Rattle.flow_worklist.specs.Covering.{covers_at}
 use Rattle.flow_worklist.proofs.Indexing.{with_row_by}
 use Rattle.flow_worklist.proofs.exploring.Exploration.add_row.Goals as goal
 

@@ -6,7 +6,6 @@ use Rattle.std.proofs.lemmas.Bool.{eq-eqb}
 use Rattle.domain_laws.specs.Made.{values_of}
 use Rattle.flow_log.specs.Log.{Row}
 use Rattle.abstract_state.specs.State.{Known}
-use Rattle.abstract_state.specs.Widening.{seen_with}
 use Rattle.flow_worklist.specs.Exploring.{IsOf, IsKept}
 use Rattle.flow_worklist.proofs.Indexing.{is_more, is_elsewhere}
 use Rattle.flow_worklist.proofs.exploring.Exploration.push_row.Goals as goal
@@ -17,13 +16,14 @@ put-requires-clause-taken g c =
     let at = c.args.at in
     let row = c.new-row.result in
     let rows = c.args.self.now.rows.items in
+    let kept = c.args.visits in
     let located : row.location ≡ at = ap (λ r. r.location) c.new-row.ensures in
     let stated : row.state ≡ c.args.state = ap (λ r. r.state) c.new-row.ensures in
     let P : List (Row (Known g.row.D.Denot)) → Type 0 = λ l. IsOf d c.add.new.self at l in
-    let seen : c.add.new.self.seen ≡ seen_with d row.state c.args.visits.seen = c.in_ok-add.ensures.seen ∙ ap (λ s. seen_with d s c.args.visits.seen) (sym stated) in
     let count : c.len-number.result ≡ length rows = search rules in
-    let numbers = c.in_ok-add.ensures.numbers ∙ ap (λ n. c.args.visits.numbers.items ++ n ∷ []) count in
-    λ κs h. subst P (sym c.in_ok-push.ensures.items) (is_more d c.args.visits c.add.new.self at rows row (eq-eqb row.location at located) c.requires.taken numbers seen)
+    let numbers = c.in_ok-add.ensures.numbers ∙ ap (λ n. kept.numbers.items ++ n ∷ []) count in
+    λ κs h. subst P (sym c.in_ok-push.ensures.items)
+    (is_more d kept c.add.new.self at rows row c.args.state stated (eq-eqb row.location at located) c.requires.well c.requires.taken numbers c.in_ok-add.ensures.seen)
 
 pub put-requires-clause-others : goal.put-requires-clause-others
 put-requires-clause-others g c =

@@ -6,8 +6,8 @@ use Rattle.std.specs.HashMap.{get}
 use Rattle.std.proofs.lemmas.Bool.{eq-eqb}
 use Rattle.domain_laws.specs.Made.{values_of}
 use Rattle.flow_log.specs.Log.{Row}
-use Rattle.abstract_state.specs.State.{Known}
-use Rattle.abstract_state.specs.Widening.{seen_with}
+use Rattle.abstract_state.specs.State.{IsWellState, Known}
+use Rattle.abstract_state.proofs.Beginning.{start-is_well}
 use Rattle.flow_worklist.specs.Exploring.{IsOf}
 use Rattle.flow_worklist.proofs.Indexing.{is_new, is_more, kept_put, row_there}
 use Rattle.flow_worklist.proofs.exploring.Exploration.start.Goals as goal
@@ -22,9 +22,11 @@ returns-clause-indexed g c =
     let rows_are : rows ≡ row ∷ [] = c.in_ok-push.ensures.items ∙ ap (λ l. l ++ row ∷ []) c.new-rows.ensures.items in
     let located : row.location ≡ at = ap (λ r. r.location) c.new.ensures ∙ c.entry-3.ensures.entry ∙ sym c.entry-2.ensures.entry in
     let stated : row.state ≡ c.in_ok-state.state = ap (λ r. r.state) c.new.ensures in
+    let met = g.met.D.Domain g.world.𝓛 g.world.𝓜 g.world.𝓡 ((λ s x. x), (λ x. x), (λ x. x), λ x. x) in
+    let well : IsWellState d c.in_ok-state.state = subst (IsWellState d) (sym c.in_ok-state.ensures) (start-is_well d met.lawful c.args.image.now) in
     let none : IsOf d c.new-first.result at [] = is_new d c.new-first.result at [] c.new-first.ensures.numbers c.new-first.ensures.seen refl in
-    let seen : first.seen ≡ seen_with d row.state c.new-first.result.seen = c.in_ok-add.ensures.seen ∙ ap (λ s. seen_with d s c.new-first.result.seen) (sym stated) in
-    let one : IsOf d first at (row ∷ []) = is_more d c.new-first.result first at [] row (eq-eqb row.location at located) none c.in_ok-add.ensures.numbers seen in
+    let one : IsOf d first at (row ∷ []) =
+    is_more d c.new-first.result first at [] row c.in_ok-state.state stated (eq-eqb row.location at located) well none c.in_ok-add.ensures.numbers c.in_ok-add.ensures.seen in
     let P : List (Row (Known g.row.D.Denot)) → Type 0 = λ l. IsOf d first at l in
     let taken : IsOf d first at rows = subst P (sym rows_are) one in
     record {
