@@ -1,4 +1,4 @@
-use super::*;
+use abstract_state::{State, Truth, Truths};
 use bit_words::{NoMemory, Width};
 use domain_laws::FlatNumbers;
 use image_loader::Image;
