@@ -4,8 +4,8 @@ use Rattle.bit_words.specs.declared.width.Width.TheVariants.{B32}
 use Rattle.domain_laws.specs.Made.{values_of}
 use Rattle.partitioned_memory.specs.Held.{counted_more}
 use Rattle.partitioned_memory.specs.Well.{MayHold}
-use Rattle.transfer_functions.proofs.BlockPlaces.{block-holds}
-use Rattle.transfer_functions.proofs.tests.block_place.Goals as goal
+use Rattle.transfer_functions_tests.proofs.BlockPlaces.{block-holds}
+use Rattle.transfer_functions_tests.proofs.tests.block_place.Goals as goal
 
 pub returns-clause-holds : goal.returns-clause-holds
 returns-clause-holds g c =

@@ -1,0 +1,5 @@
+// The tests of abstract_state.
+#![tactic(auto)]
+
+#[cfg(test)]
+mod tests;

@@ -1,0 +1,11 @@
+use Rattle.std.proofs.Common.{sym, subst}
+use Rattle.domain_laws.specs.Made.{values_of}
+use Rattle.partitioned_memory.specs.Well.{MayHold}
+use Rattle.partitioned_memory.proofs.Holding.{any-holds}
+use Rattle.transfer_functions_tests.proofs.values.anything.Goals as goal
+
+pub returns-clause-holds : goal.returns-clause-holds
+returns-clause-holds g c =
+    let d = values_of g.D.Domain g.D.PartialEq.eq in
+    let met = g.met.D.Domain g.world.𝓛 g.world.𝓜 g.world.𝓡 ((λ s x. x), (λ x. x), (λ x. x), λ x. x) in
+    λ blocks w. subst (λ (v : g.row.D.Denot). MayHold d blocks w v) (sym c.any.ensures) (any-holds d met.lawful blocks w)

@@ -1,0 +1,12 @@
+use Rattle.std.proofs.Common.{sym, subst}
+use Rattle.bit_words.specs.declared.width.Width.TheVariants.{B32}
+use Rattle.domain_laws.specs.Made.{values_of}
+use Rattle.partitioned_memory.specs.Well.{MayHold}
+use Rattle.transfer_functions.proofs.Holds.{eval-holds}
+use Rattle.transfer_functions_tests.proofs.values.moved.Goals as goal
+
+pub returns-clause-holds : goal.returns-clause-holds
+returns-clause-holds g c =
+    let d = values_of g.D.Domain g.D.PartialEq.eq in
+    let met = g.met.D.Domain g.world.𝓛 g.world.𝓜 g.world.𝓡 ((λ s x. x), (λ x. x), (λ x. x), λ x. x) in
+    λ blocks h k. subst (λ (x : g.row.D.Denot). MayHold d blocks B32 x) (sym c.eval.ensures) (eval-holds d met.lawful blocks c.args.op B32 B32 B32 c.args.a c.args.b 16 h k)
