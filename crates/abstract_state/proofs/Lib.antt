@@ -16,3 +16,4 @@ pub mod Counting
 pub mod Storing
 pub mod AnyBytes
 pub mod Seeing
+pub mod Building

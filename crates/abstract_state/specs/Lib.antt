@@ -10,3 +10,4 @@ pub mod Refining
 pub mod Widening
 pub mod Counts
 pub mod Laws
+pub mod Building

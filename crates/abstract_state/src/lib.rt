@@ -5,12 +5,14 @@
 #![tactic(auto)]
 
 mod access;
+mod build;
 mod expansion;
 mod flags;
 mod laws;
 mod note;
 mod pair_index;
 mod path;
+mod plain;
 mod refining;
 mod registers;
 mod seen;
@@ -20,12 +22,14 @@ mod truth;
 mod widening;
 mod writing;
 
+pub use build::{BuildFault, is_dirty_of, is_fact_of, plain_states_are_built};
 pub use expansion::Expansion;
 pub use flags::Truths;
 pub use laws::{covering_is_sound, refining_is_sound, starts_are_described, widening_is_sound};
 pub use memory_map::Regs;
 pub use note::Note;
 pub use path::Path;
+pub use plain::StateData;
 pub use seen::{Holder, Seen};
 pub use state::State;
 pub use stored::Stored;

@@ -15,3 +15,4 @@ pub mod PutSpots
 pub mod DirtySpots
 pub mod ByteSpots
 pub mod KnownBytes
+pub mod BuiltParts

@@ -5,5 +5,6 @@ pub mod Leaves
 pub mod Held
 pub mod KnownBytes
 pub mod Well
+pub mod Building
 pub mod Describes
 pub mod Sound

@@ -4,6 +4,7 @@
 #![tactic(auto)]
 
 mod area;
+mod building;
 mod count_list;
 mod dirty_list;
 mod fact;
@@ -18,6 +19,7 @@ mod stretch;
 mod stretches;
 
 pub use area::Area;
+pub use building::{are_well, may_hold};
 pub use fact::{Counted, Dirty, Fact, Held, Spot};
 pub use laws::{calls_are_right, spread_is_apart};
 pub use parts::Parts;

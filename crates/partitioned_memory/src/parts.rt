@@ -275,5 +275,6 @@ impl<D: Domain> Parts<D> {
     }
 }
 
+mod build;
 #[cfg(test)]
 mod tests;

@@ -235,5 +235,6 @@ fn leaves_around<V: Copy, S: Stretch<V>>(
     Ok(all)
 }
 
+mod build;
 #[cfg(test)]
 mod tests;

@@ -1,0 +1,273 @@
+-- The test of lists of which parts may be built is right: it holds exactly of lists that are well.
+use Rattle.std.proofs.Common.{◌≡◌, ℕ, ◌<◌, ◌^◌, Bool, true, false, List, [], ◌∷◌, map, Option, Some, None, refl, sym, ap, ◌∙◌, subst, arith, ℤ, pos, neg_ℤ, ◌+ℤ◌, ◌≤ℤ◌, ◌<ℤ◌, inl, inr}
+use Rattle.std.specs.Prelude.{◌&&◌, ◌==◌, not, nat_lt, int_le, int_lt}
+use Rattle.std.specs.List.{list_all}
+use Rattle.std.specs.Option.{option_map_or}
+use Rattle.std.proofs.lemmas.Bool.Decides.{nat_tests}
+use Rattle.std.proofs.lemmas.Int.{ints}
+use Rattle.std.specs.declared.cmp.Ordering.TheVariants.{Less}
+use Rattle.bit_words.specs.declared.width.Width.{Width}
+use Rattle.bit_words.specs.Width.{bits_of}
+use Rattle.address_regions.specs.declared.region.Region.{Region}
+use Rattle.address_regions.specs.declared.region.Region.TheVariants.{Stack, Fs, Gs, Block}
+use Rattle.address_regions.specs.Extents.{has_one_base}
+use Rattle.domain_laws.specs.Laws.{Values}
+use Rattle.domain_laws.specs.Reached.{named}
+use Rattle.partitioned_memory.specs.declared.area.Area.{Area}
+use Rattle.partitioned_memory.specs.declared.area.Area.TheVariants.{Image, In}
+use Rattle.partitioned_memory.specs.declared.area.Interval.{Interval}
+use Rattle.partitioned_memory.specs.declared.fact.Fact.{Fact}
+use Rattle.partitioned_memory.specs.declared.fact.Dirty.{Dirty}
+use Rattle.partitioned_memory.specs.declared.fact.Counted.{Counted}
+use Rattle.partitioned_memory.specs.declared.fact.Held.{Held}
+use Rattle.partitioned_memory.specs.declared.fact.Spot.{Spot}
+use Rattle.partitioned_memory.specs.Areas.{IsBounded, IsInside, area_cmp, block_in, bounds_of, is_marked}
+use Rattle.partitioned_memory.specs.Building.{are_sound_facts, are_well, ascend, fits_width, has_count, is_block, is_counted_dirty, is_counted_fact, is_counted_value, is_sound_dirty, is_sound_fact, lies_inside}
+use Rattle.partitioned_memory.specs.Held.{PartsHeld, count_before, dirty_at, dirty_before, fact_at, fact_before, interval_of_dirty, interval_of_fact, is_counted, pair_of_dirty, pair_of_fact}
+use Rattle.partitioned_memory.specs.Lists.{Ascends, Every}
+use Rattle.partitioned_memory.specs.Pairs.{pair_before}
+use Rattle.partitioned_memory.specs.Well.{FitsWidth, HasCount, IsBlock, IsWell, IsWellDirty, IsWellFact, MayHold}
+use Rattle.partitioned_memory.proofs.ListLaws.{Every-weaker, Every-both}
+use Rattle.partitioned_memory.proofs.Kept.{fact_before-trans}
+use Rattle.partitioned_memory.proofs.Orders.{area_total, by_area-true, by_area-less, int_le-true, int_le-from, int_lt-true, int_lt-from, is_left-trans}
+use Rattle.partitioned_memory.proofs.DirtySpots.{Ascends-ranges}
+use Rattle.partitioned_memory.proofs.FactSpots.{Ascends-facts}
+
+-- ---- tests
+
+both : (s t : Bool) → (s && t) ≡ true → (s ≡ true) × (t ≡ true)
+both true t e = (refl, e)
+both false t e = absurd (cc)
+
+both_true : (s t : Bool) → s ≡ true → t ≡ true → (s && t) ≡ true
+both_true true t e f = f
+both_true false t e f = e
+
+from_not : (t : Bool) → not t ≡ true → t ≡ false
+from_not true e = absurd (cc)
+from_not false e = refl
+
+to_not : (t : Bool) → t ≡ false → not t ≡ true
+to_not t e = ap not e
+
+-- a test of each element
+pub Every-all : {X : Type 0} (t : X → Bool) (P : X → Type 0) (xs : List X) → ((x : X) → t x ≡ true → P x) → list_all t xs ≡ true → Every P xs
+Every-all t P [] f e = tt
+Every-all t P (x ∷ xs) f e = let (g, h) = both (t x) (list_all t xs) e in (f x g, Every-all t P xs f h)
+
+pub all-Every : {X : Type 0} (t : X → Bool) (P : X → Type 0) (xs : List X) → ((x : X) → P x → t x ≡ true) → Every P xs → list_all t xs ≡ true
+all-Every t P [] f h = refl
+all-Every t P (x ∷ xs) f h = both_true (t x) (list_all t xs) (f x h.0) (all-Every t P xs f h.1)
+
+-- ---- order
+
+-- where each element comes before the next one, it comes before all later ones
+pub Ascends-of : {X : Type 0} (before : X → X → Bool) (P : X → Type 0) → ((x y z : X) → P y → before x y ≡ true → before y z ≡ true → before x z ≡ true)
+    → (xs : List X) → Every P xs → ascend before xs ≡ true → Ascends before xs
+Ascends-of before P trans [] p e = tt
+Ascends-of before P trans (x ∷ []) p e = (tt, tt)
+Ascends-of before P trans (x ∷ y ∷ ys) p e =
+    let (first, others) = both (before x y) (ascend before (y ∷ ys)) e in
+    let rest : Ascends before (y ∷ ys) = Ascends-of before P trans (y ∷ ys) p.1 others in
+    ((first, Every-weaker (λ z. before y z ≡ true) (λ z. before x z ≡ true) ys (λ z h. trans x y z p.1.0 first h) rest.0), rest)
+
+pub ascend-of : {X : Type 0} (before : X → X → Bool) (xs : List X) → Ascends before xs → ascend before xs ≡ true
+ascend-of before [] h = refl
+ascend-of before (x ∷ []) h = refl
+ascend-of before (x ∷ y ∷ ys) h = both_true (before x y) (ascend before (y ∷ ys)) h.0.0 (ascend-of before (y ∷ ys) h.1)
+
+count_before-less : (c e : Counted) → count_before c e ≡ true → area_cmp (In c.region) (In e.region) ≡ Less
+count_before-less c e h =
+    elim (by_area-true (area_cmp (In c.region) (In e.region)) false h) [
+      | inl less ↦ less
+      | inr same ↦ absurd (cc)
+    ]
+
+count_before-trans : (c e f : Counted) → count_before c e ≡ true → count_before e f ≡ true → count_before c f ≡ true
+count_before-trans c e f h k =
+    by_area-less (area_cmp (In c.region) (In f.region)) false (area_total.trans (In c.region) (In e.region) (In f.region) (count_before-less c e h) (count_before-less e f k))
+
+-- ---- by themselves
+
+least_above : (a : Area) (low : ℤ) → (bounds_of a).0 ≤ℤ low → neg_ℤ (pos (2 ^ 32)) ≤ℤ low
+least_above Image low h = omega (arith, ints)
+least_above (In Stack) low h = omega (arith, ints)
+least_above (In Fs) low h = omega (arith, ints)
+least_above (In Gs) low h = omega (arith, ints)
+least_above (In (Block site size zeroed)) low h = omega (arith, ints)
+
+pub inside-of : (i : Interval) → lies_inside i ≡ true → IsInside i
+inside-of i e =
+    let (low, rest) = both (int_le (bounds_of i.area).0 i.low) (int_le i.low i.end && (int_le i.end (bounds_of i.area).1 && int_le i.end (pos (2 ^ 32)))) e in
+    let (ordered, ends) = both (int_le i.low i.end) (int_le i.end (bounds_of i.area).1 && int_le i.end (pos (2 ^ 32))) rest in
+    let (end, greatest) = both (int_le i.end (bounds_of i.area).1) (int_le i.end (pos (2 ^ 32))) ends in
+    record {
+      low = int_le-true (bounds_of i.area).0 i.low low;
+      end = int_le-true i.end (bounds_of i.area).1 end;
+      bounded = record {
+        least = least_above i.area i.low (int_le-true (bounds_of i.area).0 i.low low);
+        greatest = int_le-true i.end (pos (2 ^ 32)) greatest;
+        ordered = int_le-true i.low i.end ordered;
+      };
+    }
+
+pub lies-inside : (i : Interval) → IsInside i → lies_inside i ≡ true
+lies-inside i h =
+    both_true (int_le (bounds_of i.area).0 i.low) (int_le i.low i.end && (int_le i.end (bounds_of i.area).1 && int_le i.end (pos (2 ^ 32)))) (int_le-from (bounds_of i.area).0 i.low h.low)
+    (both_true (int_le i.low i.end) (int_le i.end (bounds_of i.area).1 && int_le i.end (pos (2 ^ 32))) (int_le-from i.low i.end h.bounded.ordered)
+    (both_true (int_le i.end (bounds_of i.area).1) (int_le i.end (pos (2 ^ 32))) (int_le-from i.end (bounds_of i.area).1 h.end) (int_le-from i.end (pos (2 ^ 32)) h.bounded.greatest)))
+
+pub count-of : (blocks : List Counted) (r : Option Region) → has_count blocks r ≡ true → HasCount blocks r
+count-of blocks None e = tt
+count-of blocks (Some r) e = e
+
+pub has-count : (blocks : List Counted) (r : Option Region) → HasCount blocks r → has_count blocks r ≡ true
+has-count blocks None h = refl
+has-count blocks (Some r) h = h
+
+less-of : (a b : ℕ) → nat_lt a b ≡ true → a < b
+less-of a b e = grind (arith, nat_tests)
+
+is-less : (a b : ℕ) → a < b → nat_lt a b ≡ true
+is-less a b h = grind (arith, nat_tests)
+
+fits-by : (bound : ℕ) (o : Option ℕ) → option_map_or (λ n. nat_lt n bound) o true ≡ true → (n : ℕ) → o ≡ Some n → n < bound
+fits-by bound None e n h = absurd (cc)
+fits-by bound (Some m) e n h = let same : m ≡ n = cc in subst (λ k. k < bound) same (less-of m bound e)
+
+by-fits : (bound : ℕ) (o : Option ℕ) → ((n : ℕ) → o ≡ Some n → n < bound) → option_map_or (λ n. nat_lt n bound) o true ≡ true
+by-fits bound None f = refl
+by-fits bound (Some m) f = is-less m bound (f m refl)
+
+module _ {D : Type 0} (d : Values D) where
+  pub fits-of : (w : Width) (v : D) → fits_width d w v ≡ true → FitsWidth d w v
+  fits-of w v e = fits-by (2 ^ bits_of w) (d.number_of v) e
+
+  pub fits-width : (w : Width) (v : D) → FitsWidth d w v → fits_width d w v ≡ true
+  fits-width w v f = by-fits (2 ^ bits_of w) (d.number_of v) f
+
+  fact-of : (blocks : List Counted) (f : Fact D) → is_sound_fact d f ≡ true → is_counted_fact d blocks f ≡ true → IsWellFact d blocks f
+  fact-of blocks f s c =
+      let (inside, rest) = both (lies_inside (interval_of_fact f)) (not (d.rank f.value == 0) && fits_width d f.w f.value) s in
+      let (ranked, fits) = both (not (d.rank f.value == 0)) (fits_width d f.w f.value) rest in
+      let (area, value) = both (has_count blocks (block_in f.area)) (is_counted_value d blocks f.value) c in
+      record {
+        inside = inside-of (interval_of_fact f) inside;
+        counted = count-of blocks (block_in f.area) area;
+        ranked = from_not (d.rank f.value == 0) ranked;
+        holds = record { fits = fits-of f.w f.value fits; counted = count-of blocks (named (d.reach f.value)) value };
+      }
+
+  sound-fact : (blocks : List Counted) (f : Fact D) → IsWellFact d blocks f → is_sound_fact d f ≡ true
+  sound-fact blocks f h =
+      both_true (lies_inside (interval_of_fact f)) (not (d.rank f.value == 0) && fits_width d f.w f.value) (lies-inside (interval_of_fact f) h.inside)
+      (both_true (not (d.rank f.value == 0)) (fits_width d f.w f.value) (to_not (d.rank f.value == 0) h.ranked) (fits-width f.w f.value h.holds.fits))
+
+  counted-fact : (blocks : List Counted) (f : Fact D) → IsWellFact d blocks f → is_counted_fact d blocks f ≡ true
+  counted-fact blocks f h =
+      both_true (has_count blocks (block_in f.area)) (is_counted_value d blocks f.value) (has-count blocks (block_in f.area) h.counted) (has-count blocks (named (d.reach f.value)) h.holds.counted)
+
+dirty-of : (blocks : List Counted) (r : Dirty) → is_sound_dirty r ≡ true → is_counted_dirty blocks r ≡ true → IsWellDirty blocks (interval_of_dirty r)
+dirty-of blocks r s c =
+    let (filled, rest) = both (int_lt (interval_of_dirty r).low (interval_of_dirty r).end) (lies_inside (interval_of_dirty r) && is_marked r.area) s in
+    let (inside, marked) = both (lies_inside (interval_of_dirty r)) (is_marked r.area) rest in
+    record {
+      filled = int_lt-true (interval_of_dirty r).low (interval_of_dirty r).end filled;
+      inside = inside-of (interval_of_dirty r) inside;
+      marked = marked;
+      counted = count-of blocks (block_in r.area) c;
+    }
+
+sound-dirty : (blocks : List Counted) (r : Dirty) → IsWellDirty blocks (interval_of_dirty r) → is_sound_dirty r ≡ true
+sound-dirty blocks r h =
+    both_true (int_lt (interval_of_dirty r).low (interval_of_dirty r).end) (lies_inside (interval_of_dirty r) && is_marked r.area) (int_lt-from (interval_of_dirty r).low (interval_of_dirty r).end h.filled)
+    (both_true (lies_inside (interval_of_dirty r)) (is_marked r.area) (lies-inside (interval_of_dirty r) h.inside) h.marked)
+
+counted-dirty : (blocks : List Counted) (r : Dirty) → IsWellDirty blocks (interval_of_dirty r) → is_counted_dirty blocks r ≡ true
+counted-dirty blocks r h = has-count blocks (block_in r.area) h.counted
+
+dirty_before-trans : (blocks : List Counted) (r s t : Dirty) → IsWellDirty blocks (interval_of_dirty s) → dirty_before r s ≡ true → dirty_before s t ≡ true → dirty_before r t ≡ true
+dirty_before-trans blocks r s t h e k = is_left-trans (interval_of_dirty r) (interval_of_dirty s) (interval_of_dirty t) h.inside.bounded.ordered e k
+
+-- ---- the whole
+
+module _ {D : Type 0} (d : Values D) (h : PartsHeld D) where
+  pub well-of : are_well d h ≡ true → IsWell d h
+  unfolding are_well
+  well-of e =
+      let F = are_sound_facts d h.blocks h.facts in
+      let R = ascend dirty_before h.dirty && (list_all is_sound_dirty h.dirty && list_all (is_counted_dirty h.blocks) h.dirty) in
+      let B = ascend count_before h.blocks && list_all is_block h.blocks in
+      let (facts, rest) = both F (R && B) e in
+      let (dirty, blocks) = both R B rest in
+      let (facts_order, facts_each) = both (ascend fact_before h.facts) (list_all (is_sound_fact d) h.facts && list_all (is_counted_fact d h.blocks) h.facts) facts in
+      let (facts_sound, facts_counted) = both (list_all (is_sound_fact d) h.facts) (list_all (is_counted_fact d h.blocks) h.facts) facts_each in
+      let (dirty_order, dirty_each) = both (ascend dirty_before h.dirty) (list_all is_sound_dirty h.dirty && list_all (is_counted_dirty h.blocks) h.dirty) dirty in
+      let (dirty_sound, dirty_counted) = both (list_all is_sound_dirty h.dirty) (list_all (is_counted_dirty h.blocks) h.dirty) dirty_each in
+      let (blocks_order, blocks_each) = both (ascend count_before h.blocks) (list_all is_block h.blocks) blocks in
+      let well_facts : Every (IsWellFact d h.blocks) h.facts =
+      Every-both (λ f. is_sound_fact d f ≡ true) (λ f. is_counted_fact d h.blocks f ≡ true) (IsWellFact d h.blocks) h.facts (fact-of d h.blocks)
+      (Every-all (is_sound_fact d) (λ f. is_sound_fact d f ≡ true) h.facts (λ f t. t) facts_sound)
+      (Every-all (is_counted_fact d h.blocks) (λ f. is_counted_fact d h.blocks f ≡ true) h.facts (λ f t. t) facts_counted) in
+      let well_dirty : Every (λ r. IsWellDirty h.blocks (interval_of_dirty r)) h.dirty =
+      Every-both (λ r. is_sound_dirty r ≡ true) (λ r. is_counted_dirty h.blocks r ≡ true) (λ r. IsWellDirty h.blocks (interval_of_dirty r)) h.dirty (dirty-of h.blocks)
+      (Every-all is_sound_dirty (λ r. is_sound_dirty r ≡ true) h.dirty (λ r t. t) dirty_sound)
+      (Every-all (is_counted_dirty h.blocks) (λ r. is_counted_dirty h.blocks r ≡ true) h.dirty (λ r t. t) dirty_counted) in
+      record {
+        facts_ascend = Ascends-of fact_before (IsWellFact d h.blocks) (λ f g k p. fact_before-trans f g k) h.facts well_facts facts_order;
+        facts = well_facts;
+        dirty_ascends = Ascends-of dirty_before (λ r. IsWellDirty h.blocks (interval_of_dirty r)) (dirty_before-trans h.blocks) h.dirty well_dirty dirty_order;
+        dirty = well_dirty;
+        blocks_ascend = Ascends-of count_before IsBlock (λ c k f p. count_before-trans c k f) h.blocks (Every-all is_block IsBlock h.blocks (λ c t. from_not (has_one_base c.region) t) blocks_each) blocks_order;
+        blocks = Every-all is_block IsBlock h.blocks (λ c t. from_not (has_one_base c.region) t) blocks_each;
+      }
+
+  pub are-well : IsWell d h → are_well d h ≡ true
+  unfolding are_well
+  are-well w =
+      let F = are_sound_facts d h.blocks h.facts in
+      let R = ascend dirty_before h.dirty && (list_all is_sound_dirty h.dirty && list_all (is_counted_dirty h.blocks) h.dirty) in
+      let B = ascend count_before h.blocks && list_all is_block h.blocks in
+      both_true F (R && B)
+      (both_true (ascend fact_before h.facts) (list_all (is_sound_fact d) h.facts && list_all (is_counted_fact d h.blocks) h.facts) (ascend-of fact_before h.facts w.facts_ascend)
+      (both_true (list_all (is_sound_fact d) h.facts) (list_all (is_counted_fact d h.blocks) h.facts)
+      (all-Every (is_sound_fact d) (IsWellFact d h.blocks) h.facts (sound-fact d h.blocks) w.facts)
+      (all-Every (is_counted_fact d h.blocks) (IsWellFact d h.blocks) h.facts (counted-fact d h.blocks) w.facts)))
+      (both_true R B
+      (both_true (ascend dirty_before h.dirty) (list_all is_sound_dirty h.dirty && list_all (is_counted_dirty h.blocks) h.dirty) (ascend-of dirty_before h.dirty w.dirty_ascends)
+      (both_true (list_all is_sound_dirty h.dirty) (list_all (is_counted_dirty h.blocks) h.dirty)
+      (all-Every is_sound_dirty (λ r. IsWellDirty h.blocks (interval_of_dirty r)) h.dirty (sound-dirty h.blocks) w.dirty)
+      (all-Every (is_counted_dirty h.blocks) (λ r. IsWellDirty h.blocks (interval_of_dirty r)) h.dirty (counted-dirty h.blocks) w.dirty)))
+      (both_true (ascend count_before h.blocks) (list_all is_block h.blocks) (ascend-of count_before h.blocks w.blocks_ascend)
+      (all-Every is_block IsBlock h.blocks (λ c t. to_not (has_one_base c.region) t) w.blocks)))
+
+-- ---- by spots
+
+facts-there : {D : Type 0} (facts : List (Fact D)) → map fact_at (map pair_of_fact facts) ≡ facts
+facts-there [] = refl
+facts-there (f ∷ facts) = ap (λ fs. f ∷ fs) (facts-there facts)
+
+dirty-there : (dirty : List Dirty) → map dirty_at (map pair_of_dirty dirty) ≡ dirty
+dirty-there [] = refl
+dirty-there (r ∷ rs) = ap (λ ds. r ∷ ds) (dirty-there rs)
+
+module _ {D : Type 0} (d : Values D) (facts : List (Fact D)) (dirty : List Dirty) (blocks : List Counted) (w : IsWell d (record { facts = facts; dirty = dirty; blocks = blocks })) where
+  -- the pairs of facts that are well ascend by their spots
+  pub fact_pairs-ascend : (pairs : List (Spot × Held D)) → pairs ≡ map pair_of_fact facts → Ascends pair_before pairs
+  fact_pairs-ascend pairs e =
+      subst (Ascends pair_before) (sym e) (Ascends-facts (map pair_of_fact facts) (subst (Ascends fact_before) (sym (facts-there facts)) w.facts_ascend))
+
+  pub dirty_pairs-ascend : (pairs : List (Spot × ℤ)) → pairs ≡ map pair_of_dirty dirty → Ascends pair_before pairs
+  dirty_pairs-ascend pairs e =
+      let P : List Dirty → Type 0 = λ rs. Every (λ r. IsBounded (interval_of_dirty r)) rs in
+      subst (Ascends pair_before) (sym e) (Ascends-ranges (map pair_of_dirty dirty)
+      (subst P (sym (dirty-there dirty)) (Every-weaker (λ r. IsWellDirty blocks (interval_of_dirty r)) (λ r. IsBounded (interval_of_dirty r)) dirty (λ r k. k.inside.bounded) w.dirty))
+      (subst (Ascends dirty_before) (sym (dirty-there dirty)) w.dirty_ascends))
+
+  -- what the parts hold that are built of them
+  pub built-holds : (f : List (Spot × Held D)) (r : List (Spot × ℤ)) (b : List Counted) → f ≡ map pair_of_fact facts → r ≡ map pair_of_dirty dirty → b ≡ blocks
+      → (let made : PartsHeld D = record { facts = map fact_at f; dirty = map dirty_at r; blocks = b } in made) ≡ (let given : PartsHeld D = record { facts = facts; dirty = dirty; blocks = blocks } in given)
+  built-holds f r b e k same =
+      let one : map fact_at f ≡ facts = ap (map fact_at) e ∙ facts-there facts in
+      let two : map dirty_at r ≡ dirty = ap (map dirty_at) k ∙ dirty-there dirty in
+      cc

@@ -1,0 +1,4 @@
+pub mod Cutting
+pub mod FieldsTold
+pub mod Told
+pub mod Closing
