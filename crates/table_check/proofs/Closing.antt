@@ -1,6 +1,6 @@
 -- A table of which no row fails is closed, and no run leaves it before a marked location.
 use Rattle.std.proofs.Common.{◌≡◌, ℕ, zero, suc, ◌+◌, ◌<◌, ◌≤◌, ◌==◌, Bool, true, false, List, [], ◌∷◌, ◌++◌, length, map, Option, Some, None, refl, sym, ◌∙◌, ap, subst, arith, inl, inr, cond}
-use Rattle.std.specs.Prelude.{Contains, All, not, is_empty, ◌&&◌, ◌||◌, slice_get, flat_map, filter_map, option_map, if◌then◌else◌}
+use Rattle.std.specs.Prelude.{Contains, All, not, ◌&&◌, ◌||◌, slice_get, flat_map, filter_map, option_map, if◌then◌else◌}
 use Rattle.std.specs.List.{list_all, list_any, enumerate_from}
 use Rattle.std.proofs.lemmas.Bool.Decides.{nat_tests}
 use Rattle.memory_map.specs.Image.{Image, IsLoaded}
@@ -60,11 +60,11 @@ all_of t (y ∷ ys) x h held =
       | inr k ↦ all_of t ys x others k
     ]
 
-empty_none : {X : Type 0} (xs : List X) (x : X) → is_empty xs ≡ true → Contains xs x → ⊥
+empty_none : {X : Type 0} (xs : List X) (x : X) → (length xs == 0) ≡ true → Contains xs x → ⊥
 empty_none [] x e held = Contains-none x held
-empty_none (y ∷ ys) x e held = cc
+empty_none (y ∷ ys) x e held = let none : length (y ∷ ys) ≡ 0 = same_place (length (y ∷ ys)) 0 e in omega arith
 
-first_none : {X : Type 0} (xs : List X) → slice_get xs 0 ≡ None → xs ≡ []
+pub first_none : {X : Type 0} (xs : List X) → slice_get xs 0 ≡ None → xs ≡ []
 first_none [] e = refl
 first_none (x ∷ xs) e = cc
 
@@ -73,21 +73,24 @@ first_none (x ∷ xs) e = cc
 module _ {S E C W : Type 0} (a : Analysis S E C W) (marked : List ℕ) (rows : List (ℕ × S)) where
   -- no row fails
   pub record NoneBroken : Type 0 where
-    pub some : is_empty rows ≡ false
+    pub some : (length rows == 0) ≡ false
     pub none : rows_broken a marked rows ≡ []
 
-  none_by : (e : Bool) → is_empty rows ≡ e → ◌≡◌ {A = Option (ℕ × ℕ)} (if e then Some (0, START) else slice_get (rows_broken a marked rows) 0) None → NoneBroken
+  none_by : (e : Bool) → (length rows == 0) ≡ e → ◌≡◌ {A = Option (ℕ × ℕ)} (if e then Some (0, START) else slice_get (rows_broken a marked rows) 0) None → NoneBroken
   none_by true e h = cc
   none_by false e h = record { some = e; none = first_none (rows_broken a marked rows) h }
 
   pub none_broken : first_broken a marked rows ≡ None → NoneBroken
-  none_broken h = none_by (is_empty rows) refl h
+  none_broken h = none_by (length rows == 0) refl h
 
   clause_none : (k : ℕ) (row : ℕ × S) (o : Option ℕ) → NoneBroken → slice_get rows k ≡ Some row → clause_broken a marked rows k row ≡ o → o ≡ None
   clause_none k row None n at e = refl
   clause_none k row (Some c) n at e =
       let test : ℕ × (ℕ × S) → Option (ℕ × ℕ) = λ numbered. option_map (λ clause. (numbered.0, clause)) (clause_broken a marked rows numbered.0 numbered.1) in
-      let gives : test (0 + k, row) ≡ Some (0 + k, c) = ap (option_map (λ clause. (0 + k, clause))) e in
+      let from_zero : 0 + k ≡ k = omega arith in
+      let broken : clause_broken a marked rows (0 + k) row ≡ Some c = ap (λ n. clause_broken a marked rows n row) from_zero ∙ e in
+      let pairing : ℕ → ℕ × ℕ = λ clause. (0 + k, clause) in
+      let gives : test (0 + k, row) ≡ Some (0 + k, c) = ap (option_map pairing) broken in
       let in_broken : Contains (rows_broken a marked rows) (0 + k, c) = Contains-filter_map test (enumerate_from 0 rows) (0 + k, row) (0 + k, c) (Contains-numbered 0 rows k row at) gives in
       absurd (Contains-none (0 + k, c) (subst (λ (l : List (ℕ × ℕ)). Contains l (0 + k, c)) n.none in_broken))
 
@@ -155,7 +158,7 @@ module _ {S E C W : Type 0} (a : Analysis S E C W) (marked : List ℕ) (rows : L
       }
 
   closed_by : (first : Option (ℕ × S)) → slice_get rows 0 ≡ first → NoneBroken → IsClosed a rows (edges_of a marked rows) (Contains marked)
-  closed_by None at n = let none : rows ≡ [] = first_none rows at in let e : is_empty rows ≡ true = ap is_empty none in absurd (let some = n.some in cc)
+  closed_by None at n = let none : rows ≡ [] = first_none rows at in let e : (length rows == 0) ≡ true = ap (λ (l : List (ℕ × S)). length l == 0) none in absurd (let some = n.some in cc)
   closed_by (Some row) at n =
       let (entry, covers) = both (row.0 == a.entry) (a.covers row.1 a.start) (first_starts row (no_clause 0 row n at)) in
       let P : ℕ → Type 0 = λ l. Contains rows (l, row.1) in

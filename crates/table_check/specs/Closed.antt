@@ -1,5 +1,5 @@
 -- Tables of rows that are closed: what is demanded of each row, and the first one that fails, over any analysis.
-use Rattle.std.specs.Prelude.{ℕ, ◌≡◌, ◌==◌, ◌&&◌, Bool, not, is_empty, List, [], ◌∷◌, length, map, flat_map, filter_map, slice_get, Contains, Option, None, Some, if◌then◌else◌, option_map}
+use Rattle.std.specs.Prelude.{ℕ, ◌≡◌, ◌==◌, ◌&&◌, Bool, not, List, [], ◌∷◌, length, map, flat_map, filter_map, slice_get, Contains, Option, None, Some, if◌then◌else◌, option_map}
 use Rattle.std.specs.List.{list_all, list_any, enumerate_from}
 use Rattle.memory_map.specs.Image.{Image}
 use Rattle.stub_file.specs.Stubs.{StatedStubs}
@@ -39,7 +39,7 @@ module _ {S E C W : Type 0} (a : Analysis S E C W) (marked : List ℕ) (rows : L
   is_covered pair = list_any (λ row. row.0 == pair.0 && a.covers row.1 pair.1) rows
 
   abbrev pub has_no_cause : ℕ × S → Bool
-  has_no_cause row = is_empty (a.expand row.0 row.1).causes
+  has_no_cause row = length (a.expand row.0 row.1).causes == 0
 
   abbrev pub leads_to_rows : ℕ × S → Bool
   leads_to_rows row = list_all is_covered (a.expand row.0 row.1).next
@@ -60,11 +60,15 @@ module _ {S E C W : Type 0} (a : Analysis S E C W) (marked : List ℕ) (rows : L
 
   -- the first of them; a table without rows fails at row 0
   abbrev pub first_broken : Option (ℕ × ℕ)
-  first_broken = if is_empty rows then Some (0, START) else slice_get rows_broken 0
+  first_broken = if length rows == 0 then Some (0, START) else slice_get rows_broken 0
 
-  -- the edges of the next pairs of a row, where it is not marked
+  -- the edges of the next pairs of a row
+  abbrev pub leads_from : ℕ × S → List E
+  leads_from row = map (λ pair. a.edge row.0 row.1 pair.0) (a.expand row.0 row.1).next
+
+  -- those that a table has: of rows at locations that are not marked
   abbrev pub edges_from : ℕ × S → List E
-  edges_from row = if is_marked marked row.0 then [] else map (λ pair. a.edge row.0 row.1 pair.0) (a.expand row.0 row.1).next
+  edges_from row = if is_marked marked row.0 then [] else leads_from row
 
   abbrev pub edges_of : List E
   edges_of = flat_map edges_from rows

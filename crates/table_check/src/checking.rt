@@ -1,21 +1,24 @@
-ghost use Rattle.std.specs.Prelude.{◌≡◌, ◌==◌, ◌&&◌, ◌<◌, ◌≤◌, IfOk, false, is_empty, length, map};
+ghost use Rattle.std.specs.Prelude.{◌≡◌, ◌==◌, ◌&&◌, ◌<◌, ◌≤◌, All, IfOk, length, map, not};
 ghost use Rattle.std.specs.List.{list_all, list_any};
 ghost use Rattle.domain_laws.specs.Made.{values_of};
-ghost use Rattle.abstract_state.specs.State.{covers_state, start_state};
+ghost use Rattle.memory_map.specs.Image.{IsLoaded};
+ghost use Rattle.abstract_state.specs.State.{IsWellState, covers_state, start_state};
 ghost use Rattle.flow_log.specs.Ordered.{ordered_set};
 ghost use Rattle.flow_log.specs.Orders.{edge_cmp};
 ghost use Rattle.flow_worklist.specs.Analysis.{edge_by};
-ghost use Rattle.table_check.specs.Checking.{AreFindings, IsExpandedOf, IsFindingOf, IsIndexOf};
-ghost use Rattle.table_check.specs.Closed.{IsYes, is_marked, table_answer};
+ghost use Rattle.table_check.specs.Checking.{AreFindings, AreMarksOf, IsExpandedOf, IsFindingAt, IsFindingOf, IsIndexOf, answer_found};
+ghost use Rattle.table_check.specs.Closed.{IsYes, table_answer};
 ghost use Rattle.table_check.specs.Laws.{RunsAreFollowedBy};
 
 use crate::Table;
+use crate::finding::{Finding, all_edges, first_broken};
+use crate::marks::Marks;
 use crate::row_index::RowIndex;
 use abstract_state::State;
 use bit_words::NoMemory;
 use domain_laws::Domain;
-use flow_log::{Edge, sorted_edges};
-use flow_worklist::{Post, Reading, expanded};
+use flow_log::{Edge, Label, sorted_edges};
+use flow_worklist::{Reading, expanded};
 use image_loader::Image;
 use rayon::prelude::*;
 use std::alloc::Global;
@@ -44,16 +47,7 @@ pub enum TableAnswer {
     },
 }
 
-// What was found of a row.
-#[derive(Drop)]
-enum Finding {
-    // The first clause that fails.
-    Broken(u8),
-    // The edges of its next pairs.
-    Leads(Vec<Edge>),
-}
-
-// What a row is checked with: the state at the start, and where rows are.
+// What a row is checked with: the state at the start, where rows are, and which locations are marked.
 #[derive(Drop)]
 struct Check<'a, D: Domain> {
     image: &'a Image,
@@ -61,8 +55,10 @@ struct Check<'a, D: Domain> {
     table: &'a Table<D>,
     start: State<D>,
     index: RowIndex,
+    marks: Marks,
     ghost started: { start ≡ start_state (values_of D.Domain D.eq) image.now },
     ghost indexed: { IsIndexOf index table.now.rows },
+    ghost marked: { AreMarksOf marks table.now.marked },
 }
 
 // Whether a row is at the entry and covers the start.
@@ -72,22 +68,21 @@ fn starts<D: Domain>(image: &Image, start: &State<D>, row: &(u32, State<D>)) -> 
     row.0 == image.entry() && row.1.covers(start)
 }
 
-fn is_marked(marked: &[u32], at: u32) -> bool
-    ensures { result ≡ is_marked marked.now at }
-{
-    marked.iter().any(|m| *m == at)
-}
-
-// The edges of a row's next pairs.
-fn edges_of<D: Domain>(alloc: Global, post: &Post<D>) -> Result<Vec<Edge>, NoMemory>
-    ensures { IfOk result (λ edges. edges.items ≡ map (λ pair. edge_by post.now.at post.now.label pair.0) post.now.expansion.next) }
+// The edges to next pairs, from an address by a label.
+fn edges_of<D: Domain>(
+    alloc: Global,
+    from: u32,
+    label: &Label,
+    next: &[(u32, State<D>)],
+) -> Result<Vec<Edge>, NoMemory>
+    ensures { IfOk result (λ edges. edges.items ≡ map (λ pair. edge_by from label.now pair.0) next.now) }
 {
     let mut edges = Vec::new(alloc);
-    for pair in post.expansion.next() {
+    for pair in next {
         edges.push(Edge {
-            from: post.at,
+            from,
             to: pair.0,
-            label: post.label.copy(alloc)?,
+            label: label.copy(alloc)?,
         })?;
     }
     Ok(edges)
@@ -110,6 +105,17 @@ fn lead_to_rows<D: Domain>(
     true
 }
 
+// What is always so of an image, and of the state of each row.
+fn kept<D: Domain>(image: &Image, rows: &[(u32, State<D>)])
+    ensures loaded { IsLoaded image.now }
+    ensures well { All (λ row. IsWellState (values_of D.Domain.own D.eq) row.1) rows.now }
+{
+    let _ = image.entry();
+    for row in rows {
+        row.1.well();
+    }
+}
+
 impl<'a, D: Domain> Check<'a, D> {
     fn of(
         alloc: Global,
@@ -127,7 +133,15 @@ impl<'a, D: Domain> Check<'a, D> {
             table,
             start: State::start(alloc, image)?,
             index: RowIndex::of(alloc, table.rows.as_slice())?,
+            marks: Marks::of(alloc, table.marked.as_slice())?,
         })
+    }
+
+    // Whether the row of a number fails as the start.
+    fn is_wrong_start(&self, number: usize, row: &(u32, State<D>)) -> bool
+        ensures { result ≡ (number == 0 && not (row.now.0 == self.now.image.now.entry && covers_state (values_of D.Domain.own D.eq) row.now.1 self.now.start)) }
+    {
+        number == 0 && !starts(self.image, &self.start, row)
     }
 
     // What is found of a row at a location that is not marked.
@@ -135,15 +149,8 @@ impl<'a, D: Domain> Check<'a, D> {
         ensures { IfOk result (IsExpandedOf (values_of D.Domain.own D.eq) self.now.image.now self.now.stubs.now self.now.table.now row.now) }
     {
         let reading = Reading::of(self.image.fetch(row.0));
-        let post = expanded(
-            alloc,
-            self.image,
-            self.stubs,
-            self.table.k,
-            row.0,
-            &row.1,
-            &reading,
-        )?;
+        let k = self.table.k;
+        let post = expanded(alloc, self.image, self.stubs, k, row.0, &row.1, &reading)?;
         if !post.expansion.causes().is_empty() {
             return Ok(Finding::Broken(CAUSE));
         }
@@ -151,20 +158,30 @@ impl<'a, D: Domain> Check<'a, D> {
         if !lead_to_rows(rows, &self.index, post.expansion.next()) {
             return Ok(Finding::Broken(NEXT));
         }
-        Ok(Finding::Leads(edges_of(alloc, &post)?))
+        let edges = edges_of(alloc, post.at, &post.label, post.expansion.next())?;
+        Ok(Finding::Leads(edges))
     }
 
-    // What is found of the row of a number.
+    // What is found of the row that has a number.
     fn row(&self, alloc: Global, number: usize, row: &(u32, State<D>)) -> Result<Finding, NoMemory>
         ensures { IfOk result (IsFindingOf (values_of D.Domain.own D.eq) self.now.image.now self.now.stubs.now self.now.table.now number row.now) }
     {
-        if number == 0 && !starts(self.image, &self.start, row) {
+        if self.is_wrong_start(number, row) {
             return Ok(Finding::Broken(START));
         }
-        if is_marked(self.table.marked.as_slice(), row.0) {
+        if self.marks.contain(row.0) {
             return Ok(Finding::Leads(Vec::new(alloc)));
         }
         self.expanded(alloc, row)
+    }
+
+    // What is found of the row of a number.
+    fn finding(&self, alloc: Global, number: usize) -> Result<Finding, NoMemory>
+        requires { number < length self.now.table.now.rows }
+        ensures { IfOk result (IsFindingAt (values_of D.Domain.own D.eq) self.now.image.now self.now.stubs.now self.now.table.now number) }
+    {
+        let rows = self.table.rows.as_slice();
+        self.row(alloc, number, &rows[number])
     }
 }
 
@@ -173,19 +190,18 @@ fn findings<R: Threads + Sync, D: Domain>(
     rt: &R,
     alloc: Global,
     check: &Check<D>,
-) -> Result<Vec<Result<Finding, NoMemory>>, NoMemory>
+) -> Result<Vec<Finding>, NoMemory>
     ensures { IfOk result (λ found. AreFindings (values_of D.Domain.own D.eq) check.now.image.now check.now.stubs.now check.now.table.now found.items) }
 {
-    let rows = check.table.rows.as_slice();
-    let found = (0..rows.len())
+    (0..check.table.rows.len())
         .into_par_iter()
         .map(
             |i: usize| -> Result<Finding, NoMemory>
-                requires { i < length rows.now }
-            { check.row(alloc, i, &rows[i]) },
+                requires { i < length check.now.table.now.rows }
+                ensures { IfOk result (IsFindingAt (values_of D.Domain.own D.eq) check.entry.now.image.now check.entry.now.stubs.now check.entry.now.table.now i) }
+            { check.finding(alloc, i) },
         )
-        .collect(rt, alloc)?;
-    Ok(found)
+        .collect::<Result<Vec<Finding>, NoMemory>>(rt, alloc)?
 }
 
 // How many different edges there are.
@@ -196,27 +212,13 @@ fn count(edges: Vec<Edge>) -> u64
 }
 
 // The answer by what was found of each row.
-fn answer_of<D: Domain>(
-    alloc: Global,
-    image: &Image,
-    stubs: &Stubs,
-    t: &Table<D>,
-    found: Vec<Result<Finding, NoMemory>>,
-) -> Result<TableAnswer, NoMemory>
-    requires some { is_empty t.now.rows ≡ false }
-    requires found { AreFindings (values_of D.Domain.own D.eq) image.now stubs.now t.now found.items }
-    ensures { IfOk result (λ answer. answer ≡ table_answer (values_of D.Domain.own D.eq) image.now stubs.now t.now) }
+fn answer_of(alloc: Global, found: Vec<Finding>) -> Result<TableAnswer, NoMemory>
+    ensures { IfOk result (λ answer. answer ≡ answer_found found.items) }
 {
-    let _ = (image, stubs, t);
-    let mut edges = Vec::new(alloc);
-    let mut row = 0;
-    for finding in found {
-        match finding? {
-            Finding::Broken(kind) => return Ok(TableAnswer::No { row, kind }),
-            Finding::Leads(mut more) => edges.append(&mut more)?,
-        }
-        row += 1;
+    if let Some((row, kind)) = first_broken(&found) {
+        return Ok(TableAnswer::No { row, kind });
     }
+    let edges = all_edges(alloc, found)?;
     Ok(TableAnswer::Yes {
         edges: count(edges),
     })
@@ -237,6 +239,7 @@ pub fn check_table<R: Threads + Sync, D: Domain>(
     ensures answer { IfOk result (λ answer. answer ≡ table_answer (values_of D.Domain.own D.eq) image.now stubs.now t.now) }
     ensures sound { IfOk result (λ answer. IsYes answer → RunsAreFollowedBy (values_of D.Domain.own D.eq) image.now stubs.now t.now) }
 {
+    kept(image, t.rows.as_slice());
     if t.rows.len() == 0 {
         return Ok(TableAnswer::No {
             row: 0,
@@ -244,6 +247,5 @@ pub fn check_table<R: Threads + Sync, D: Domain>(
         });
     }
     let check = Check::of(alloc, image, stubs, t)?;
-    let found = findings(rt, alloc, &check)?;
-    answer_of(alloc, image, stubs, t, found)
+    answer_of(alloc, findings(rt, alloc, &check)?)
 }

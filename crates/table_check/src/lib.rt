@@ -6,7 +6,9 @@
 
 mod checking;
 mod fields;
+mod finding;
 mod laws;
+mod marks;
 mod print;
 mod reader;
 mod row_index;
