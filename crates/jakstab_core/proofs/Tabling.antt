@@ -11,10 +11,19 @@ use Rattle.flow_log.specs.declared.cause.Cause.{Cause}
 use Rattle.flow_log.specs.declared.cause.Cause.TheVariants.{Budget}
 use Rattle.flow_log.specs.Log.{Mark, Row, expansion_mark, mark_of, marks_by, unexpanded_marks}
 use Rattle.flow_worklist.specs.Analysis.{ImageLog, image_log}
+use Rattle.std.specs.Prelude.{All, Ok}
+use Rattle.bounded_values.specs.declared.value.Bounded.{Bounded}
+use Rattle.bounded_values.specs.BoundedLaws.{bounded, bounded-lawful}
+use Rattle.abstract_state.specs.State.{IsWellState}
+use Rattle.table_check.specs.declared.checking.TableAnswer.{TableAnswer}
+use Rattle.table_check.specs.declared.checking.TableAnswer.TheVariants.{Yes, No}
+use Rattle.table_check.specs.Laws.{RunsAreFollowedBy}
+use Rattle.table_check.specs.Reading.{table_read}
+use Rattle.table_check.proofs.Closing.{runs-are_followed, yes-closed}
 use Rattle.table_check.specs.declared.table.Table.{Table}
 use Rattle.table_check.specs.Closed.{IsYes, answer_by, table_answer, table_edges}
 use Rattle.table_check.proofs.Logging.{log-is_closed}
-use Rattle.jakstab_core.specs.Tables.{left_at, table_of}
+use Rattle.jakstab_core.specs.Tables.{ChecksRuns, IsChecked, answer_line, left_at, table_of}
 
 -- ---- the marks
 
@@ -81,3 +90,21 @@ module _ {D : Type 0} (d : Values D) (l : IsLawful d) (image : Image) (stubs : S
   -- the table of the log of an image is closed
   pub table-closed : (log : ImageLog D) → log ≡ image_log d image stubs k budget → IsYes (table_answer d image stubs (table_of k log))
   table-closed log is = let P : ImageLog D → Type 0 = λ x. IsYes (table_answer d image stubs (table_of k x)) in subst P (sym is) log-closed
+
+-- ---- the line of `check`
+
+-- the states of a table that a text tells are well
+told-well : (image : Image) (told : List ℕ) (table : Table Bounded) → table_read image told ≡ Ok table → All (λ row. IsWellState bounded row.1) table.rows
+told-well image told table read = ?
+
+yes_line : (answer : TableAnswer) (rows more edges : ℕ) → answer_line rows answer ≡ answer_line more (Yes edges) → IsYes answer
+yes_line (Yes found) rows more edges e = tt
+yes_line (No row kind) rows more edges e = cc
+
+pub check_covers : (stubs : StatedStubs) (image : Image) (told text : List ℕ) (refuted : Bool) → IsLoaded image → IsChecked image stubs told text refuted → ChecksRuns image stubs told text
+check_covers stubs image told text refuted loaded c table rows edges read line =
+    let same : c.table ≡ table = (let both : Ok c.table ≡ Ok table = sym c.read ∙ read in cc) in
+    let P : Table Bounded → Type 0 = λ t. text ≡ answer_line (length t.rows) (table_answer bounded image stubs t) in
+    let said : text ≡ answer_line (length table.rows) (table_answer bounded image stubs table) = subst P same c.line in
+    let yes : IsYes (table_answer bounded image stubs table) = yes_line (table_answer bounded image stubs table) (length table.rows) rows edges (sym said ∙ line) in
+    runs-are_followed bounded bounded-lawful image stubs table loaded (told-well image told table read) (yes-closed bounded bounded-lawful image stubs table yes)
