@@ -16,3 +16,5 @@ pub use automaton::automaton_of;
 pub use exploring::{Limits, explore};
 pub use laws::runs_are_followed;
 pub use log::{Log, Row};
+pub use post::{Post, expanded};
+pub use reading::Reading;

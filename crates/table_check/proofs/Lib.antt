@@ -1,0 +1,10 @@
+pub mod Cutting
+pub mod FieldsTold
+pub mod Told
+pub mod Answered
+pub mod Answering
+pub mod Closing
+pub mod Covering
+pub mod Indexing
+pub mod Logging
+pub mod Posting

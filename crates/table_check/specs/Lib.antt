@@ -1,0 +1,6 @@
+pub mod Text
+pub mod Fields
+pub mod Reading
+pub mod Closed
+pub mod Checking
+pub mod Laws
