@@ -1,6 +1,6 @@
 -- Texts that are cut at a byte.
-use Rattle.std.proofs.Common.{◌≡◌, ℕ, zero, suc, ◌+◌, ◌<◌, ◌==◌, Bool, true, false, List, [], ◌∷◌, ◌++◌, length, take, drop, cond, Option, Some, None, refl, sym, ◌∙◌, ap, subst, arith, nat_lt}
-use Rattle.std.specs.Prelude.{not, position, ◌&&◌}
+use Rattle.std.proofs.Common.{◌≡◌, ℕ, suc, ◌+◌, ◌<◌, ◌==◌, Bool, true, false, List, [], ◌∷◌, ◌++◌, length, take, drop, cond, Option, Some, None, refl, sym, ◌∙◌, ap, arith, nat_lt}
+use Rattle.std.specs.Prelude.{not, ◌&&◌}
 use Rattle.std.specs.Option.{option_map}
 use Rattle.std.specs.List.{list_all, position_or_len}
 use Rattle.std.proofs.lemmas.Bool.Decides.{nat_tests}

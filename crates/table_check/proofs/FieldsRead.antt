@@ -1,8 +1,7 @@
 -- The texts of a table's fields are read as what they are of.
-use Rattle.std.proofs.Common.{◌≡◌, ℕ, zero, suc, ◌+◌, ◌-◌, ◌/◌, ◌%◌, ◌<◌, ◌≤◌, ◌^◌, ◌==◌, Bool, true, false, List, [], ◌∷◌, ◌++◌, length, map, Option, None, Some, refl, sym, ◌∙◌, ap, subst, arith, append_assoc, append-nil, nat_lt, decimal, ℤ, pos, negsuc, neg_ℤ, ◌+ℤ◌, ◌≤ℤ◌, ◌<ℤ◌}
+use Rattle.std.proofs.Common.{◌≡◌, ℕ, zero, suc, ◌+◌, ◌-◌, ◌/◌, ◌%◌, ◌<◌, ◌≤◌, ◌^◌, ◌==◌, Bool, true, false, List, [], ◌∷◌, ◌++◌, length, map, Option, None, Some, refl, ◌∙◌, ap, arith, append_assoc, nat_lt, decimal, ℤ, pos, negsuc, neg_ℤ, ◌+ℤ◌, ◌≤ℤ◌, ◌<ℤ◌}
 use Rattle.std.specs.Prelude.{codes, nat_le, not, ◌&&◌, int_le, int_lt, is_some, unsigned_abs, option_and_then, option_map, if◌then◌else◌}
-use Rattle.std.specs.List.{list_all, range_with_len}
-use Rattle.std.specs.Option.{option_map_or}
+use Rattle.std.specs.List.{list_all}
 use Rattle.std.specs.Str.{bytes_eq}
 use Rattle.std.specs.Str.Parse.{AllDigits}
 use Rattle.std.proofs.lemmas.Bool.Decides.{nat_tests}
@@ -11,12 +10,11 @@ use Rattle.std.proofs.lemmas.Int.{ints}
 use Rattle.std.proofs.lemmas.List.Folds.{list_all-append}
 use Rattle.std.proofs.lemmas.Str.Parse.{digit_from_value}
 use Rattle.memory_map.specs.Image.{Image, IsLoaded}
-use Rattle.memory_map.specs.Range.{Range, USER_LOW, byte_at, maps_all}
+use Rattle.memory_map.specs.Range.{USER_LOW, byte_at, maps_all}
 use Rattle.memory_map.proofs.Mappings.{mapped_inside}
-use Rattle.text_fields.specs.Decimal.{decimal_below, decimal_number}
+use Rattle.text_fields.specs.Decimal.{decimal_below}
 use Rattle.text_fields.specs.Fields.{no_more, then_field, word_of}
 use Rattle.text_fields.specs.Hex.{hex8, hex_digit, hex_digits}
-use Rattle.text_fields.specs.Line.{newline, space}
 use Rattle.text_fields.proofs.DecimalFacts.{decimal_read}
 use Rattle.text_fields.proofs.FieldFacts.{then_reads}
 use Rattle.text_fields.proofs.FieldTexts.{word_read}
@@ -25,7 +23,7 @@ use Rattle.bit_words.specs.declared.width.Width.TheVariants.{B8, B16, B32}
 use Rattle.bit_words.specs.Width.{bytes_of, is_signed, signed_of, word_of as word_in}
 use Rattle.address_regions.specs.declared.region.Region.{Region}
 use Rattle.address_regions.specs.declared.region.Region.TheVariants.{Stack, Fs, Gs, Block}
-use Rattle.address_regions.specs.Extents.{has_one_base, has_room}
+use Rattle.address_regions.specs.Extents.{has_room}
 use Rattle.bounded_values.specs.declared.value.Bounded.{Bounded}
 use Rattle.bounded_values.specs.declared.value.Bounded.TheVariants.{Number, Exact, Inside, Any}
 use Rattle.bounded_values.specs.BoundedLaws.{bounded}
@@ -35,7 +33,7 @@ use Rattle.partitioned_memory.specs.declared.fact.Fact.{Fact}
 use Rattle.partitioned_memory.specs.declared.fact.Dirty.{Dirty}
 use Rattle.partitioned_memory.specs.declared.fact.Counted.{Counted}
 use Rattle.partitioned_memory.specs.Areas.{bounds_of, interval_at, is_marked}
-use Rattle.partitioned_memory.specs.Building.{fits_width, is_sound_dirty, is_sound_fact, lies_inside}
+use Rattle.partitioned_memory.specs.Building.{is_sound_dirty, is_sound_fact, lies_inside}
 use Rattle.partitioned_memory.specs.Held.{interval_of_dirty, interval_of_fact}
 use Rattle.partitioned_memory.proofs.Orders.{int_le-true, int_lt-true}
 use Rattle.abstract_state.specs.declared.truth.Truth.{Truth}
@@ -43,7 +41,7 @@ use Rattle.abstract_state.specs.declared.truth.Truth.TheVariants.{Yes, No, Unkno
 use Rattle.abstract_state.specs.declared.note.Note.{Note}
 use Rattle.abstract_state.specs.declared.note.Note.TheVariants.{Register, Word}
 use Rattle.abstract_state.specs.Building.{are_image_bytes, is_dirty_of, is_well_note}
-use Rattle.table_check.specs.Fields.{address_fields, area_of, bit_of, block_by, block_fields, block_of, cut_at, dirty_fields, fact_fields, flags_fields, flags_of, inside_in, inside_of, k_fields, k_of, low_in, many_of, note_fields, place_by, place_of, plain_value, region_by, region_of, register_note, register_of, regs_fields, truth_of, truths_by, value_by, value_of, width_of, window_of, word_note}
+use Rattle.table_check.specs.Fields.{address_fields, area_of, bit_of, block_by, block_fields, block_of, cut_at, dirty_fields, fact_fields, flags_fields, flags_of, inside_in, k_fields, k_of, low_in, many_of, note_fields, place_by, region_by, region_of, register_note, register_of, regs_fields, truth_of, truths_by, value_by, value_of, width_of, word_note}
 use Rattle.table_check.specs.Text.{area_text, bit_text, count_text, offset_text, region_text, truth_code, value_text}
 use Rattle.table_check.specs.TextLaws.{fits_area, fits_count, fits_dirty, fits_fact, fits_note, fits_region, fits_value, is_made, is_word}
 use Rattle.table_check.proofs.Cutting.{cut-nowhere, cut-there, lacks}

@@ -1,6 +1,6 @@
 -- The fields of a table's lines are the texts of what they give.
-use Rattle.std.proofs.Common.{◌≡◌, ℕ, zero, suc, ◌+◌, ◌*◌, ◌-◌, ◌<◌, ◌≤◌, ◌^◌, ◌%◌, ◌==◌, Bool, true, false, List, [], ◌∷◌, ◌++◌, length, map, Option, None, Some, Ok, Err, refl, sym, ◌∙◌, ap, subst, arith, append_assoc, append-nil, nat_lt, decimal, ℤ, pos, negsuc}
-use Rattle.std.specs.Prelude.{Result, codes, flat_map, nat_le, not, ◌&&◌, option_and_then, option_map, if◌then◌else◌}
+use Rattle.std.proofs.Common.{◌≡◌, ℕ, suc, ◌+◌, ◌*◌, ◌-◌, ◌<◌, ◌≤◌, ◌^◌, ◌%◌, ◌==◌, Bool, true, false, List, [], ◌∷◌, ◌++◌, length, map, Option, None, Some, refl, sym, ◌∙◌, ap, subst, arith, append_assoc, nat_lt, decimal, pos, negsuc}
+use Rattle.std.specs.Prelude.{codes, nat_le, ◌&&◌, option_and_then, option_map, if◌then◌else◌}
 use Rattle.std.specs.List.{list_all}
 use Rattle.std.specs.Str.{bytes_eq}
 use Rattle.std.proofs.Math.Nat.{mul-le-mul_left, pow-succ'}
@@ -10,11 +10,9 @@ use Rattle.std.proofs.lemmas.Slice.Eq.{bytes_eq-Decides}
 use Rattle.text_fields.specs.Decimal.{decimal_below, decimal_number}
 use Rattle.text_fields.specs.Fields.{no_more, then_field, word_of}
 use Rattle.text_fields.specs.Hex.{digit_number, hex8, number_after}
-use Rattle.text_fields.specs.Line.{newline, space}
 use Rattle.text_fields.proofs.DecimalFacts.{decimal_is_text}
 use Rattle.text_fields.proofs.FieldTexts.{has_field, is_done, word_is}
 use Rattle.text_fields.proofs.HexFacts.{digit_is}
-use Rattle.text_fields.proofs.Splitting.{spaced}
 use Rattle.bit_words.specs.declared.width.Width.{Width}
 use Rattle.bit_words.specs.declared.width.Width.TheVariants.{B8, B16, B32}
 use Rattle.bit_words.specs.Width.{bytes_of, signed_of, word_of as word_in}
@@ -32,7 +30,7 @@ use Rattle.abstract_state.specs.declared.truth.Truth.{Truth}
 use Rattle.abstract_state.specs.declared.truth.Truth.TheVariants.{Yes, No, Unknown}
 use Rattle.abstract_state.specs.declared.note.Note.{Note}
 use Rattle.abstract_state.specs.declared.note.Note.TheVariants.{Register, Word}
-use Rattle.table_check.specs.Fields.{address_fields, area_of, bit_of, block_by, block_fields, block_of, cut_at, dirty_fields, fact_fields, flags_fields, flags_of, inside_in, inside_of, k_fields, k_of, low_in, many_of, note_fields, place_by, place_of, plain_value, region_by, region_of, register_note, register_of, regs_fields, truth_of, truths_by, value_by, value_of, width_of, window_of, word_note}
+use Rattle.table_check.specs.Fields.{address_fields, area_of, bit_of, block_by, block_fields, block_of, cut_at, dirty_fields, fact_fields, flags_fields, flags_of, inside_in, inside_of, k_fields, k_of, low_in, many_of, note_fields, place_by, place_of, region_by, region_of, register_note, register_of, regs_fields, truth_of, truths_by, value_by, value_of, width_of, window_of, word_note}
 use Rattle.table_check.specs.Text.{area_text, bit_text, count_text, offset_text, region_text, truth_code, value_text}
 use Rattle.table_check.specs.TextLaws.{is_made}
 use Rattle.table_check.proofs.Cutting.{cut-is}

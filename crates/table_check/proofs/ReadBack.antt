@@ -1,9 +1,8 @@
 -- The text of a table of an image is read line by line, each line as what it was printed of.
-use Rattle.std.proofs.Common.{◌≡◌, ℕ, zero, suc, ◌+◌, ◌-◌, ◌<◌, ◌≤◌, ◌^◌, ◌==◌, Bool, true, false, List, [], ◌∷◌, ◌++◌, length, map, get_or, Option, None, Some, Ok, Err, refl, sym, ◌∙◌, ap, subst, arith, append_assoc, append-nil, decimal, nat_lt, ℤ, pos, ◌+ℤ◌, ◌<ℤ◌, ◌≤ℤ◌}
-use Rattle.std.specs.Prelude.{All, Result, codes, flat_map, nat_le, not, ◌&&◌, int_lt, option_map, slice_get, if◌then◌else◌}
+use Rattle.std.proofs.Common.{◌≡◌, ℕ, ◌+◌, ◌-◌, ◌<◌, ◌≤◌, ◌^◌, ◌==◌, Bool, true, false, List, [], ◌∷◌, ◌++◌, length, map, get_or, Option, None, Some, Ok, refl, sym, ◌∙◌, ap, subst, arith, append_assoc, append-nil, decimal, nat_lt, ℤ, ◌+ℤ◌}
+use Rattle.std.specs.Prelude.{All, Result, codes, flat_map, nat_le, ◌&&◌, int_lt, option_map, slice_get, if◌then◌else◌}
 use Rattle.std.specs.Option.{option_map_or}
 use Rattle.std.specs.List.{list_all}
-use Rattle.std.specs.Str.{bytes_eq}
 use Rattle.std.specs.declared.cmp.Ordering.{Ordering}
 use Rattle.std.specs.declared.cmp.Ordering.TheVariants.{Less, Equal, Greater}
 use Rattle.std.proofs.lemmas.Bool.Decides.{nat_tests}
@@ -14,10 +13,10 @@ use Rattle.std.proofs.lemmas.List.Sums.{AllPass-from_list_all}
 use Rattle.std.proofs.lemmas.Option.{slice_get-get_or}
 use Rattle.std.proofs.Math.Seq.{get_or-append_seam}
 use Rattle.memory_map.specs.Image.{Image, IsLoaded}
-use Rattle.text_fields.specs.Fields.{no_more, then_field}
+use Rattle.text_fields.specs.Fields.{no_more}
 use Rattle.text_fields.specs.Hex.{hex8}
 use Rattle.text_fields.specs.Line.{newline}
-use Rattle.text_fields.specs.Lines.{CONTENT, COUNT, FIELD, HEADER, ORDER, WORD, fields}
+use Rattle.text_fields.specs.Lines.{CONTENT, COUNT, FIELD, ORDER, fields}
 use Rattle.text_fields.proofs.DecimalFacts.{decimal_read}
 use Rattle.text_fields.proofs.Splitting.{ArePlain, IsPlain, Reaches, fields_spaced, plain_line, reaches_both, reaches_end, reaches_line, reaches_none, spaced, spaced_line}
 use Rattle.text_fields.proofs.Splitting as plain
@@ -27,7 +26,7 @@ use Rattle.partitioned_memory.specs.declared.fact.Fact.{Fact}
 use Rattle.partitioned_memory.specs.declared.fact.Dirty.{Dirty}
 use Rattle.partitioned_memory.specs.declared.fact.Counted.{Counted}
 use Rattle.partitioned_memory.specs.Areas.{area_cmp, by_area, is_left, is_marked}
-use Rattle.partitioned_memory.specs.Building.{are_sound_facts, are_well, ascend, is_block, is_counted_dirty, is_counted_fact, is_sound_dirty, is_sound_fact, lies_inside, may_hold}
+use Rattle.partitioned_memory.specs.Building.{are_well, ascend, is_block, is_counted_dirty, is_counted_fact, is_sound_dirty, is_sound_fact, lies_inside, may_hold}
 use Rattle.partitioned_memory.specs.Held.{PartsHeld, count_before, dirty_before, fact_before, interval_of_dirty, pair_of_fact, spot_at}
 use Rattle.partitioned_memory.proofs.FactSpots.{fact-spots, spot_before-is}
 use Rattle.partitioned_memory.proofs.Orders.{int_lt-from, int_lt-true}
@@ -37,18 +36,17 @@ use Rattle.abstract_state.specs.declared.truth.Truth.{Truth}
 use Rattle.abstract_state.specs.declared.note.Note.{Note}
 use Rattle.abstract_state.specs.declared.note.Note.TheVariants.{Register, Word}
 use Rattle.abstract_state.specs.declared.plain.StateData.{StateData}
-use Rattle.abstract_state.specs.State.{IsWellState, Known}
-use Rattle.abstract_state.specs.Building.{HasImageBytes, built, is_dirty_of, is_fact_of, is_note, is_small, is_state, is_well_note, parts_of, plain_of, registers_in, truths_in}
+use Rattle.abstract_state.specs.State.{Known}
+use Rattle.abstract_state.specs.Building.{built, is_dirty_of, is_fact_of, is_note, is_small, is_state, is_well_note, parts_of, plain_of}
 use Rattle.abstract_state.proofs.Building.{plain-built}
-use Rattle.table_check.specs.declared.table.Table.{Table}
 use Rattle.table_check.specs.declared.stage.Stage.{Stage}
 use Rattle.table_check.specs.declared.stage.Stage.TheVariants as stages
-use Rattle.table_check.specs.Fields.{address_fields, block_fields, dirty_fields, fact_fields, flags_fields, k_fields, note_fields, regs_fields}
-use Rattle.table_check.specs.Reading.{Reading, after_state, block_step, closed, closed_by, count_fields, count_of, demand, dirty_step, end_step, fact_step, flags_step, follows_last, header_step, is_dirty_above, is_fact_above, is_over, k_step, mark_or_next_step, mark_step, next_step, no_state, note_step, nothing, or_fault, part_of, regs_step, row_step, state_step, step_after, table_grammar, table_read, table_step, told}
+use Rattle.table_check.specs.Fields.{dirty_fields, fact_fields, regs_fields}
+use Rattle.table_check.specs.Reading.{Reading, after_state, block_step, closed, closed_by, count_fields, count_of, demand, dirty_step, end_step, fact_step, flags_step, follows_last, is_dirty_above, is_fact_above, is_over, k_step, mark_or_next_step, mark_step, next_step, no_state, note_step, nothing, or_fault, part_of, regs_step, row_step, state_step, table_grammar, table_read, table_step, told}
 use Rattle.table_check.specs.Text.{area_text, block_line, count_text, dirty_line, end_line, fact_line, flags_line, header_text, k_line, note_line, offset_text, open_line, region_text, regs_line, row_line, row_text, state_text, table_text, truth_code, value_text}
-use Rattle.table_check.specs.TextLaws.{FitsRow, FitsState, IsStateOf, TablesAreReadBack, fits_count, fits_dirty, fits_fact, fits_note, fits_value, is_above, is_made, is_word}
+use Rattle.table_check.specs.TextLaws.{FitsRow, FitsState, IsStateOf, TablesAreReadBack, fits_count, fits_dirty, fits_fact, fits_note, is_above, is_made, is_word}
 use Rattle.table_check.proofs.FieldsTold.{block_list, dirty_list, fact_list, note_list}
-use Rattle.table_check.proofs.FieldsRead.{address_back, block_back, both, both_true, dirty_back, fact_back, flags_back, is_plain, k_back, note_back, offset_read, plain_area, plain_count, plain_decimal, plain_region, plain_truths, plain_value_text, plain_width, plain_word, read_as, regs_back, word_small}
+use Rattle.table_check.proofs.FieldsRead.{address_back, block_back, both, both_true, dirty_back, fact_back, flags_back, is_plain, k_back, note_back, plain_area, plain_count, plain_decimal, plain_region, plain_truths, plain_value_text, plain_width, plain_word, read_as, regs_back}
 use Rattle.table_check.proofs.Told.{block_text, dirty_text, end_text, fact_text, flags_text, k_text, note_line-none, note_text, open_text, regs_text, row_head}
 
 -- ---- lists that go on from an element

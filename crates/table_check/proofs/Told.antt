@@ -1,6 +1,6 @@
 -- What a table's text tells is a table of the image, and the text is that table's.
-use Rattle.std.proofs.Common.{◌≡◌, ℕ, zero, suc, ◌+◌, ◌-◌, ◌<◌, ◌≤◌, ◌^◌, ◌==◌, Bool, true, false, List, [], ◌∷◌, ◌++◌, length, map, Option, None, Some, Ok, Err, refl, sym, ◌∙◌, ap, subst, arith, append_assoc, append-nil, decimal}
-use Rattle.std.specs.Prelude.{All, Result, codes, flat_map, nat_le, nat_lt, ◌&&◌, option_map, slice_get, if◌then◌else◌}
+use Rattle.std.proofs.Common.{◌≡◌, ℕ, suc, ◌+◌, ◌-◌, ◌<◌, ◌≤◌, ◌^◌, ◌==◌, Bool, true, false, List, [], ◌∷◌, ◌++◌, length, map, Option, None, Some, Ok, Err, refl, sym, ◌∙◌, ap, subst, arith, append_assoc, append-nil, decimal}
+use Rattle.std.specs.Prelude.{All, Result, codes, flat_map, nat_le, nat_lt, ◌&&◌, slice_get, if◌then◌else◌}
 use Rattle.std.specs.Option.{option_map_or}
 use Rattle.std.specs.List.{join_with_byte, list_all}
 use Rattle.std.specs.Str.{bytes_eq}
@@ -12,12 +12,12 @@ use Rattle.std.proofs.lemmas.List.{length-append}
 use Rattle.std.proofs.lemmas.List.Elements.{All-nil, All-push}
 use Rattle.memory_map.specs.Image.{Image}
 use Rattle.text_fields.specs.Decimal.{decimal_number}
-use Rattle.text_fields.specs.Fields.{no_more, then_field}
+use Rattle.text_fields.specs.Fields.{no_more}
 use Rattle.text_fields.specs.Hex.{hex8}
 use Rattle.text_fields.specs.Line.{newline, space}
 use Rattle.text_fields.specs.declared.line_fault.LineFault.{LineFault}
 use Rattle.bit_words.specs.Width.{bytes_of}
-use Rattle.text_fields.specs.Lines.{CONTENT, COUNT, END, FIELD, HEADER, ORDER, WORD, after_line, end_fault, fields, lines, read_from, read_text}
+use Rattle.text_fields.specs.Lines.{CONTENT, COUNT, FIELD, HEADER, ORDER, WORD, after_line, end_fault, fields, lines, read_from, read_text}
 use Rattle.text_fields.proofs.DecimalFacts.{decimal_is_text}
 use Rattle.text_fields.proofs.FieldTexts.{has_field, is_done}
 use Rattle.text_fields.proofs.Splitting.{fields_back, spaced}

@@ -1,6 +1,6 @@
 ghost use Rattle.std.specs.Prelude.{◌≡◌, ◌++◌, IfOk, OnOk, flat_map, map};
-ghost use Rattle.table_check.specs.Text.{area_text, block_line, count_text, dirty_line, end_line, fact_line, flags_line, header_text, k_line, note_line, offset_text, open_line, region_text, regs_line, row_line, row_text, state_text, table_text, truth_code, value_text};
-ghost use Rattle.text_fields.specs.Line.{newline, space};
+ghost use Rattle.table_check.specs.Text.{area_text, block_line, count_text, dirty_line, end_line, fact_line, flags_line, k_line, note_line, offset_text, open_line, region_text, regs_line, row_text, state_text, table_text, truth_code, value_text};
+ghost use Rattle.text_fields.specs.Line.{space};
 
 use crate::Table;
 use abstract_state::{Note, State, StateData, Truth};
