@@ -1,6 +1,6 @@
 -- Texts that are cut at a byte.
-use Rattle.std.proofs.Common.{◌≡◌, ℕ, zero, suc, ◌+◌, ◌<◌, ◌==◌, Bool, true, false, List, [], ◌∷◌, ◌++◌, length, take, drop, cond, Option, Some, None, refl, sym, ◌∙◌, ap, subst, arith, nat_lt}
-use Rattle.std.specs.Prelude.{not, position, ◌&&◌}
+use Rattle.std.proofs.Common.{◌≡◌, ℕ, suc, ◌+◌, ◌<◌, ◌==◌, Bool, true, false, List, [], ◌∷◌, ◌++◌, length, take, drop, cond, Option, Some, None, refl, sym, ◌∙◌, ap, arith, nat_lt}
+use Rattle.std.specs.Prelude.{not, ◌&&◌}
 use Rattle.std.specs.Option.{option_map}
 use Rattle.std.specs.List.{list_all, position_or_len}
 use Rattle.std.proofs.lemmas.Bool.Decides.{nat_tests}
@@ -14,12 +14,18 @@ same_byte c b e = grind (arith, nat_tests)
 
 -- ---- what is cut
 
+parts_more : (c b : ℕ) (bs : List ℕ) (p n m : ℕ) → n ≡ suc p → m ≡ suc (p + 1) → bs ≡ take p bs ++ c ∷ drop (p + 1) bs → b ∷ bs ≡ take n (b ∷ bs) ++ c ∷ drop m (b ∷ bs)
+parts_more c b bs p n m e f whole =
+    ap (λ xs. b ∷ xs) whole ∙ ap (λ k. take k (b ∷ bs) ++ c ∷ drop (suc (p + 1)) (b ∷ bs)) (sym e) ∙ ap (λ k. take n (b ∷ bs) ++ c ∷ drop k (b ∷ bs)) (sym f)
+
 -- a text is what stands before the first place of a byte, the byte, and what stands behind it
 parts_by : (c b : ℕ) (bs : List ℕ) (t : Bool) → is_byte c b ≡ t → (position_or_len (is_byte c) bs < length bs → bs ≡ take (position_or_len (is_byte c) bs) bs ++ c ∷ drop (position_or_len (is_byte c) bs + 1) bs)
     → cond (not t) (1 + position_or_len (is_byte c) bs) 0 < length (b ∷ bs)
     → b ∷ bs ≡ take (cond (not t) (1 + position_or_len (is_byte c) bs) 0) (b ∷ bs) ++ c ∷ drop (cond (not t) (1 + position_or_len (is_byte c) bs) 0 + 1) (b ∷ bs)
 parts_by c b bs true e later h = ap (λ x. x ∷ bs) (same_byte c b e)
-parts_by c b bs false e later h = ap (λ xs. b ∷ xs) (later (omega arith))
+parts_by c b bs false e later h =
+    let p : ℕ = position_or_len (is_byte c) bs in
+    parts_more c b bs p (1 + p) (1 + p + 1) (omega arith) (omega arith) (later (omega arith))
 
 parts : (c : ℕ) (text : List ℕ) → position_or_len (is_byte c) text < length text → text ≡ take (position_or_len (is_byte c) text) text ++ c ∷ drop (position_or_len (is_byte c) text + 1) text
 parts c [] h = absurd (omega arith)
@@ -53,17 +59,20 @@ from_not : (t : Bool) → not t ≡ true → t ≡ false
 from_not true e = absurd (cc)
 from_not false e = refl
 
+one-before : (n : ℕ) → 1 + n ≡ suc n
+one-before n = omega arith
+
 place-there : (c : ℕ) (first rest : List ℕ) → lacks c first ≡ true → position_or_len (is_byte c) (first ++ c ∷ rest) ≡ length first
 place-there c [] rest e = ap (λ t. cond (not t) (1 + position_or_len (is_byte c) rest) 0) (byte-same c)
 place-there c (b ∷ bs) rest e =
     let (own, others) = both (not (is_byte c b)) (lacks c bs) e in
-    ap (λ t. cond t (1 + position_or_len (is_byte c) (bs ++ c ∷ rest)) 0) own ∙ ap (λ n. 1 + n) (place-there c bs rest others)
+    ap (λ t. cond t (1 + position_or_len (is_byte c) (bs ++ c ∷ rest)) 0) own ∙ ap (λ n. 1 + n) (place-there c bs rest others) ∙ one-before (length bs)
 
 place-nowhere : (c : ℕ) (text : List ℕ) → lacks c text ≡ true → position_or_len (is_byte c) text ≡ length text
 place-nowhere c [] e = refl
 place-nowhere c (b ∷ bs) e =
     let (own, others) = both (not (is_byte c b)) (lacks c bs) e in
-    ap (λ t. cond t (1 + position_or_len (is_byte c) bs) 0) own ∙ ap (λ n. 1 + n) (place-nowhere c bs others)
+    ap (λ t. cond t (1 + position_or_len (is_byte c) bs) 0) own ∙ ap (λ n. 1 + n) (place-nowhere c bs others) ∙ one-before (length bs)
 
 take-front : (first rest : List ℕ) → take (length first) (first ++ rest) ≡ first
 take-front [] rest = refl
@@ -71,7 +80,9 @@ take-front (b ∷ bs) rest = ap (λ xs. b ∷ xs) (take-front bs rest)
 
 drop-front : (c : ℕ) (first rest : List ℕ) → drop (length first + 1) (first ++ c ∷ rest) ≡ rest
 drop-front c [] rest = refl
-drop-front c (b ∷ bs) rest = drop-front c bs rest
+drop-front c (b ∷ bs) rest =
+    let e : suc (length bs) + 1 ≡ suc (length bs + 1) = omega arith in
+    ap (λ n. drop n (b ∷ (bs ++ c ∷ rest))) e ∙ drop-front c bs rest
 
 shorter : (c : ℕ) (first rest : List ℕ) → length first < length (first ++ c ∷ rest)
 shorter c [] rest = omega arith
@@ -83,13 +94,13 @@ is-less a b h = grind (arith, nat_tests)
 not-less : (a : ℕ) → nat_lt a a ≡ false
 not-less a = grind (arith, nat_tests)
 
-found_there : (n m : ℕ) (text first rest : List ℕ) (c : ℕ) → n ≡ length first → text ≡ first ++ c ∷ rest
-    → option_map (λ at. (take at text, drop (at + 1) text)) (cond (nat_lt n (length text)) (Some n) None) ≡ Some (first, rest)
-found_there n m text first rest c is whole =
+found_there : (n : ℕ) (text first rest : List ℕ) (c : ℕ) → n ≡ length first → text ≡ first ++ c ∷ rest
+    → option_map {U = List ℕ × List ℕ} (λ at. (take at text, drop (at + 1) text)) (cond (nat_lt n (length text)) (Some n) None) ≡ Some (first, rest)
+found_there n text first rest c is whole =
     rw (whole, is, is-less (length first) (length (first ++ c ∷ rest)) (shorter c first rest), take-front first (c ∷ rest), drop-front c first rest) refl
 
 pub cut-there : (c : ℕ) (first rest : List ℕ) → lacks c first ≡ true → cut_at c (first ++ c ∷ rest) ≡ Some (first, rest)
-cut-there c first rest e = found_there (position_or_len (is_byte c) (first ++ c ∷ rest)) 0 (first ++ c ∷ rest) first rest c (place-there c first rest e) refl
+cut-there c first rest e = found_there (position_or_len (is_byte c) (first ++ c ∷ rest)) (first ++ c ∷ rest) first rest c (place-there c first rest e) refl
 
 pub cut-nowhere : (c : ℕ) (text : List ℕ) → lacks c text ≡ true → cut_at c text ≡ None
 cut-nowhere c text e = rw (place-nowhere c text e, not-less (length text)) refl

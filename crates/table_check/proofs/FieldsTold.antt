@@ -1,6 +1,7 @@
 -- The fields of a table's lines are the texts of what they give.
-use Rattle.std.proofs.Common.{◌≡◌, ℕ, zero, suc, ◌+◌, ◌*◌, ◌-◌, ◌<◌, ◌≤◌, ◌^◌, ◌%◌, ◌==◌, Bool, true, false, List, [], ◌∷◌, ◌++◌, length, map, Option, None, Some, Ok, Err, refl, sym, ◌∙◌, ap, subst, arith, append_assoc, append-nil, nat_lt, decimal, ℤ, pos, negsuc}
-use Rattle.std.specs.Prelude.{Result, codes, flat_map, nat_le, not, ◌&&◌, option_and_then, option_map, if◌then◌else◌}
+use Rattle.std.proofs.Common.{◌≡◌, ℕ, suc, ◌+◌, ◌*◌, ◌-◌, ◌<◌, ◌≤◌, ◌^◌, ◌%◌, ◌==◌, Bool, true, false, List, [], ◌∷◌, ◌++◌, length, map, Option, None, Some, refl, sym, ◌∙◌, ap, subst, arith, append_assoc, nat_lt, decimal, pos, negsuc}
+use Rattle.std.specs.Prelude.{codes, nat_le, ◌&&◌, option_and_then, option_map, if◌then◌else◌}
+use Rattle.std.specs.List.{list_all}
 use Rattle.std.specs.Str.{bytes_eq}
 use Rattle.std.proofs.Math.Nat.{mul-le-mul_left, pow-succ'}
 use Rattle.std.proofs.lemmas.Bool.Decides.{nat_tests}
@@ -9,11 +10,9 @@ use Rattle.std.proofs.lemmas.Slice.Eq.{bytes_eq-Decides}
 use Rattle.text_fields.specs.Decimal.{decimal_below, decimal_number}
 use Rattle.text_fields.specs.Fields.{no_more, then_field, word_of}
 use Rattle.text_fields.specs.Hex.{digit_number, hex8, number_after}
-use Rattle.text_fields.specs.Line.{newline, space}
 use Rattle.text_fields.proofs.DecimalFacts.{decimal_is_text}
 use Rattle.text_fields.proofs.FieldTexts.{has_field, is_done, word_is}
 use Rattle.text_fields.proofs.HexFacts.{digit_is}
-use Rattle.text_fields.proofs.Splitting.{spaced}
 use Rattle.bit_words.specs.declared.width.Width.{Width}
 use Rattle.bit_words.specs.declared.width.Width.TheVariants.{B8, B16, B32}
 use Rattle.bit_words.specs.Width.{bytes_of, signed_of, word_of as word_in}
@@ -31,8 +30,9 @@ use Rattle.abstract_state.specs.declared.truth.Truth.{Truth}
 use Rattle.abstract_state.specs.declared.truth.Truth.TheVariants.{Yes, No, Unknown}
 use Rattle.abstract_state.specs.declared.note.Note.{Note}
 use Rattle.abstract_state.specs.declared.note.Note.TheVariants.{Register, Word}
-use Rattle.table_check.specs.Fields.{address_fields, area_of, bit_of, block_by, block_fields, block_of, cut_at, dirty_fields, fact_fields, flags_fields, flags_of, inside_in, inside_of, k_fields, k_of, low_in, many_of, note_fields, place_by, place_of, plain_value, region_by, region_of, register_note, register_of, regs_fields, truth_of, truths_by, value_by, value_of, width_of, window_of, word_note}
+use Rattle.table_check.specs.Fields.{address_fields, area_of, bit_of, block_by, block_fields, block_of, cut_at, dirty_fields, fact_fields, flags_fields, flags_of, inside_in, inside_of, k_fields, k_of, low_in, many_of, note_fields, place_by, place_of, region_by, region_of, register_note, register_of, regs_fields, truth_of, truths_by, value_by, value_of, width_of, window_of, word_note}
 use Rattle.table_check.specs.Text.{area_text, bit_text, count_text, offset_text, region_text, truth_code, value_text}
+use Rattle.table_check.specs.TextLaws.{is_made}
 use Rattle.table_check.proofs.Cutting.{cut-is}
 
 -- ---- what is behind a test or something found
@@ -221,6 +221,46 @@ pub value_is : (field : List ℕ) (v : Bounded) → value_of field ≡ Some v �
 unfolding value_of
 value_is field v h = value_by-is field v (cut_at 58 field) refl h
 
+-- ---- what is read is made by a method
+
+made_along : (a v : Bounded) → a ≡ v → is_made a ≡ true → is_made v ≡ true
+made_along a v e h = ap is_made (sym e) ∙ h
+
+plain_made : (field : List ℕ) (v : Bounded) (t : Bool) → (if t then Some Any else option_map (λ n. Number n) (word_of field)) ≡ Some v → is_made v ≡ true
+plain_made field v true h = (let is : Any ≡ v = cc in made_along Any v is refl)
+plain_made field v false h =
+    let m : (n : ℕ) × (word_of field ≡ Some n) × (Number n ≡ v) = mapped (λ n. Number n) (word_of field) v h in
+    made_along (Number m.0) v m.2 refl
+
+place_made : (text : List ℕ) (v : Bounded) → place_of text ≡ Some v → is_made v ≡ true
+place_made text v h =
+    let go : List ℕ × List ℕ → Option Bounded = λ p. place_by p.0 p.1 in
+    let f : (p : List ℕ × List ℕ) × (cut_at 58 text ≡ Some p) × (go p ≡ Some v) = chained go (cut_at 58 text) v h in
+    let on : Region → Option Bounded = λ r. option_map (λ n. Exact r (signed_of B32 n)) (word_of f.0.1) in
+    let r : (r : Region) × (region_of f.0.0 ≡ Some r) × (on r ≡ Some v) = chained on (region_of f.0.0) v f.2 in
+    let o : (n : ℕ) × (word_of f.0.1 ≡ Some n) × (Exact r.0 (signed_of B32 n) ≡ v) = mapped (λ n. Exact r.0 (signed_of B32 n)) (word_of f.0.1) v r.2 in
+    made_along (Exact r.0 (signed_of B32 o.0)) v o.2 refl
+
+inside_made : (text : List ℕ) (v : Bounded) → inside_of text ≡ Some v → is_made v ≡ true
+inside_made text v h =
+    let r : (r : Region) × (region_of text ≡ Some r) × (inside_in r ≡ Some v) = chained inside_in (region_of text) v h in
+    let i : (has_room r.0 ≡ true) × (Some (Inside r.0) ≡ Some v) = if_some (has_room r.0) (Some (Inside r.0)) v r.2 in
+    let is : Inside r.0 ≡ v = cc in
+    made_along (Inside r.0) v is i.0
+
+letter_made : (v : Bounded) (p : List ℕ × List ℕ) (e i : Bool) → (if e then place_of p.1 else if i then inside_of p.1 else None) ≡ Some v → is_made v ≡ true
+letter_made v p true i h = place_made p.1 v h
+letter_made v p false true h = inside_made p.1 v h
+letter_made v p false false h = cc
+
+made_by : (field : List ℕ) (v : Bounded) (o : Option (List ℕ × List ℕ)) → value_by field o ≡ Some v → is_made v ≡ true
+made_by field v None h = plain_made field v (bytes_eq field (codes "a")) h
+made_by field v (Some p) h = letter_made v p (bytes_eq p.0 (codes "e")) (bytes_eq p.0 (codes "i")) h
+
+pub value_made : (field : List ℕ) (v : Bounded) → value_of field ≡ Some v → is_made v ≡ true
+unfolding value_of
+value_made field v h = made_by field v (cut_at 58 field) h
+
 -- ---- other forms
 
 width_text : Width → List ℕ
@@ -236,9 +276,9 @@ width_is field w h =
 pub many_is : (field : List ℕ) (b : Bool) → many_of field ≡ Some b → field ≡ count_text b
 many_is field b h = word_case count_text field (codes "one") false b _ refl (λ k. word_case count_text field (codes "many") true b None refl (λ none. cc) k) h
 
-code_by : (c : ℕ) (t : Truth) (one zero unknown : Bool) → (c == 49) ≡ one → (c == 48) ≡ zero → (c == 63) ≡ unknown
-    → (if one then Some Yes else if zero then Some No else if unknown then Some Unknown else None) ≡ Some t → c ≡ truth_code t
-code_by c t true zero unknown a b d h = (let is : Yes ≡ t = cc in let e : c ≡ 49 = grind (arith, nat_tests) in e ∙ ap truth_code is)
+code_by : (c : ℕ) (t : Truth) (one none unknown : Bool) → (c == 49) ≡ one → (c == 48) ≡ none → (c == 63) ≡ unknown
+    → (if one then Some Yes else if none then Some No else if unknown then Some Unknown else None) ≡ Some t → c ≡ truth_code t
+code_by c t true none unknown a b d h = (let is : Yes ≡ t = cc in let e : c ≡ 49 = grind (arith, nat_tests) in e ∙ ap truth_code is)
 code_by c t false true unknown a b d h = (let is : No ≡ t = cc in let e : c ≡ 48 = grind (arith, nat_tests) in e ∙ ap truth_code is)
 code_by c t false false true a b d h = (let is : Unknown ≡ t = cc in let e : c ≡ 63 = grind (arith, nat_tests) in e ∙ ap truth_code is)
 code_by c t false false false a b d h = cc
@@ -307,14 +347,19 @@ pub record HasValue {B : Type 0} (fs : List (List ℕ)) (go : Bounded → List (
   pub value : Bounded
   pub others : List (List ℕ)
   pub begins : fs ≡ value_text value ∷ others
+  pub made : is_made value ≡ true
   pub after : go value others ≡ Some b
 
 has_value : {B : Type 0} (fs : List (List ℕ)) (go : Bounded → List (List ℕ) → Option B) (b : B) → then_field value_of fs go ≡ Some b → HasValue fs go b
 has_value fs go b h =
     let f = has_field value_of fs go b h in
-    record { value = f.value; others = f.others; begins = f.begins ∙ ap (λ l. l ∷ f.others) (value_is f.field f.value f.gives); after = f.after }
+    record { value = f.value; others = f.others; begins = f.begins ∙ ap (λ l. l ∷ f.others) (value_is f.field f.value f.gives); made = value_made f.field f.value f.gives; after = f.after }
 
-pub regs_told : (fs : List (List ℕ)) (vs : List Bounded) → regs_fields fs ≡ Some vs → fs ≡ map value_text vs
+both_true : (s t : Bool) → s ≡ true → t ≡ true → (s && t) ≡ true
+both_true true t e f = f
+both_true false t e f = e
+
+pub regs_told : (fs : List (List ℕ)) (vs : List Bounded) → regs_fields fs ≡ Some vs → (fs ≡ map value_text vs) × (list_all is_made vs ≡ true)
 unfolding regs_fields
 regs_told fs vs h =
     let a = has_value fs _ vs h in
@@ -328,12 +373,19 @@ regs_told fs vs h =
     let made : List Bounded = a.value ∷ b.value ∷ c.value ∷ d.value ∷ e.value ∷ f.value ∷ g.value ∷ i.value ∷ [] in
     let last = is_done made vs i.others i.after in
     let t : Bounded → List ℕ = value_text in
+    let text : fs ≡ map value_text vs =
     a.begins ∙ ap (λ l. t a.value ∷ l) b.begins ∙ ap (λ l. t a.value ∷ t b.value ∷ l) c.begins ∙ ap (λ l. t a.value ∷ t b.value ∷ t c.value ∷ l) d.begins
     ∙ ap (λ l. t a.value ∷ t b.value ∷ t c.value ∷ t d.value ∷ l) e.begins ∙ ap (λ l. t a.value ∷ t b.value ∷ t c.value ∷ t d.value ∷ t e.value ∷ l) f.begins
     ∙ ap (λ l. t a.value ∷ t b.value ∷ t c.value ∷ t d.value ∷ t e.value ∷ t f.value ∷ l) g.begins
     ∙ ap (λ l. t a.value ∷ t b.value ∷ t c.value ∷ t d.value ∷ t e.value ∷ t f.value ∷ t g.value ∷ l) i.begins
     ∙ ap (λ l. t a.value ∷ t b.value ∷ t c.value ∷ t d.value ∷ t e.value ∷ t f.value ∷ t g.value ∷ t i.value ∷ l) last.none
     ∙ ap (map value_text) last.same
+    in
+    let all : list_all is_made made ≡ true =
+    both_true (is_made a.value) _ a.made (both_true (is_made b.value) _ b.made (both_true (is_made c.value) _ c.made (both_true (is_made d.value) _ d.made
+    (both_true (is_made e.value) _ e.made (both_true (is_made f.value) _ f.made (both_true (is_made g.value) _ g.made (both_true (is_made i.value) true i.made refl)))))))
+    in
+    (text, ap (list_all is_made) (sym last.same) ∙ all)
 
 -- the fields of a note's line
 abbrev pub note_list : Note → List (List ℕ)
@@ -390,6 +442,20 @@ fact_told fs f h =
     ∙ ap (λ l. area_text a.value ∷ offset_text (low_in a.value b.value) ∷ l ∷ e.field ∷ []) (width_is c.field c.value c.gives)
     ∙ ap (λ l. area_text a.value ∷ offset_text (low_in a.value b.value) ∷ decimal (bytes_of c.value) ∷ l ∷ []) (value_is e.field e.value e.gives)
     ∙ ap fact_list d.same
+
+pub fact_made : (fs : List (List ℕ)) (f : Fact Bounded) → fact_fields fs ≡ Some f → is_made f.value ≡ true
+unfolding fact_fields
+fact_made fs f h =
+    let made : Area → ℕ → Width → Bounded → Fact Bounded = λ area low w v. record { area = area; low = low_in area low; w = w; value = v } in
+    let third : Area → ℕ → Width → List (List ℕ) → Option (Fact Bounded) = λ area low w fs. then_field value_of fs (λ v fs. no_more (made area low w v) fs) in
+    let second : Area → ℕ → List (List ℕ) → Option (Fact Bounded) = λ area low fs. then_field width_of fs (third area low) in
+    let first : Area → List (List ℕ) → Option (Fact Bounded) = λ area fs. then_field word_of fs (second area) in
+    let a = has_field area_of fs first f h in
+    let b = has_field word_of a.others (second a.value) f a.after in
+    let c = has_field width_of b.others (third a.value b.value) f b.after in
+    let e = has_field value_of c.others (λ v fs. no_more (made a.value b.value c.value v) fs) f c.after in
+    let d = is_done (made a.value b.value c.value e.value) f e.others e.after in
+    made_along e.value f.value (ap (λ (x : Fact Bounded). x.value) d.same) (value_made e.field e.value e.gives)
 
 abbrev pub dirty_list : Dirty → List (List ℕ)
 dirty_list r = area_text r.area ∷ offset_text r.low ∷ offset_text r.size ∷ []

@@ -1,8 +1,10 @@
 pub mod Cutting
 pub mod FieldsTold
+pub mod FieldsRead
 pub mod Told
 pub mod Answered
 pub mod Answering
+pub mod ReadBack
 pub mod Closing
 pub mod Covering
 pub mod Indexing

@@ -1,21 +1,23 @@
 -- What a table's text tells is a table of the image, and the text is that table's.
-use Rattle.std.proofs.Common.{◌≡◌, ℕ, zero, suc, ◌+◌, ◌-◌, ◌<◌, ◌≤◌, ◌^◌, ◌==◌, Bool, true, false, List, [], ◌∷◌, ◌++◌, length, map, Option, None, Some, Ok, Err, refl, sym, ◌∙◌, ap, subst, arith, append_assoc, append-nil, decimal}
-use Rattle.std.specs.Prelude.{All, Result, codes, flat_map, nat_le, nat_lt, ◌&&◌, option_map, slice_get, if◌then◌else◌}
+use Rattle.std.proofs.Common.{◌≡◌, ℕ, suc, ◌+◌, ◌-◌, ◌<◌, ◌≤◌, ◌^◌, ◌==◌, Bool, true, false, List, [], ◌∷◌, ◌++◌, length, map, Option, None, Some, Ok, Err, refl, sym, ◌∙◌, ap, subst, arith, append_assoc, append-nil, decimal}
+use Rattle.std.specs.Prelude.{All, Result, codes, flat_map, nat_le, nat_lt, ◌&&◌, slice_get, if◌then◌else◌}
 use Rattle.std.specs.Option.{option_map_or}
-use Rattle.std.specs.List.{join_with_byte}
+use Rattle.std.specs.List.{join_with_byte, list_all}
 use Rattle.std.specs.Str.{bytes_eq}
 use Rattle.std.proofs.lemmas.Bool.Decides.{nat_tests}
 use Rattle.std.proofs.lemmas.Grind.{flat_map-append}
+use Rattle.std.proofs.lemmas.List.Folds.{list_all-append}
 use Rattle.std.proofs.lemmas.List.Splits.{join_with_byte-slice_split}
 use Rattle.std.proofs.lemmas.List.{length-append}
 use Rattle.std.proofs.lemmas.List.Elements.{All-nil, All-push}
 use Rattle.memory_map.specs.Image.{Image}
 use Rattle.text_fields.specs.Decimal.{decimal_number}
-use Rattle.text_fields.specs.Fields.{no_more, then_field}
+use Rattle.text_fields.specs.Fields.{no_more}
 use Rattle.text_fields.specs.Hex.{hex8}
 use Rattle.text_fields.specs.Line.{newline, space}
 use Rattle.text_fields.specs.declared.line_fault.LineFault.{LineFault}
-use Rattle.text_fields.specs.Lines.{CONTENT, COUNT, END, FIELD, HEADER, ORDER, WORD, after_line, end_fault, fields, lines, read_from, read_text}
+use Rattle.bit_words.specs.Width.{bytes_of}
+use Rattle.text_fields.specs.Lines.{CONTENT, COUNT, FIELD, HEADER, ORDER, WORD, after_line, end_fault, fields, lines, read_from, read_text}
 use Rattle.text_fields.proofs.DecimalFacts.{decimal_is_text}
 use Rattle.text_fields.proofs.FieldTexts.{has_field, is_done}
 use Rattle.text_fields.proofs.Splitting.{fields_back, spaced}
@@ -37,10 +39,10 @@ use Rattle.table_check.specs.declared.table.Table.{Table}
 use Rattle.table_check.specs.declared.stage.Stage.{Stage}
 use Rattle.table_check.specs.declared.stage.Stage.TheVariants as stages
 use Rattle.table_check.specs.Fields.{address_fields, block_fields, dirty_fields, fact_fields, flags_fields, k_fields, note_fields, regs_fields}
-use Rattle.table_check.specs.Laws.{IsTableOf, TextsTellTables, is_above}
+use Rattle.table_check.specs.TextLaws.{IsStateOf, IsTableOf, TextsTellTables, are_made, is_above, is_made}
 use Rattle.table_check.specs.Reading.{Reading, block_step, closed, closed_by, count_fields, count_of, demand, dirty_step, end_step, fact_step, flags_step, follows_last, header_step, is_dirty_above, is_fact_above, is_over, k_step, mark_or_next_step, after_state, mark_step, next_step, no_state, note_step, nothing, or_fault, part_of, regs_step, row_step, state_step, step_after, table_grammar, table_read, table_step, told}
-use Rattle.table_check.specs.Text.{block_line, count_text, dirty_line, end_line, fact_line, flags_line, header_text, k_line, note_line, offset_text, open_line, regs_line, row_line, row_text, state_text, table_text, truth_code, value_text}
-use Rattle.table_check.proofs.FieldsTold.{address_told, block_list, block_told, dirty_list, dirty_told, fact_list, fact_told, flags_told, k_told, mapped, note_list, note_told, regs_told, same_word}
+use Rattle.table_check.specs.Text.{area_text, block_line, count_text, dirty_line, end_line, fact_line, flags_line, header_text, k_line, note_line, offset_text, open_line, region_text, regs_line, row_line, row_text, state_text, table_text, truth_code, value_text}
+use Rattle.table_check.proofs.FieldsTold.{address_told, block_list, block_told, dirty_list, dirty_told, fact_list, fact_made, fact_told, flags_told, k_told, mapped, note_list, note_told, regs_told, same_word}
 
 -- ---- what is behind a test or something found
 
@@ -105,7 +107,8 @@ pub record KeepsAt (stage : Stage) (r : Reading) : Type 0 where
   pub begun : IsBegun stage r
   pub k : HasK stage r.k
   pub marked : ascend is_above r.marked ≡ true
-  pub rows : All (λ row. HasImageBytes r.image row.1) r.rows
+  pub rows : All (λ row. IsStateOf r.image row.1) r.rows
+  pub made : are_made r.state ≡ true
 
 pub record Adds (stage : Stage) (r t : Reading) (line : List ℕ) : Type 0 where
   pub kept : KeepsAt t.stage t
@@ -121,46 +124,55 @@ worded line word own fs gs parts is same = fields_back line word fs parts ∙ ap
 
 -- ---- the texts of lines
 
-k_text : (k : ℕ) → (codes "k" ++ spaced (decimal k ∷ [])) ++ newline ≡ k_line k
+pub k_text : (k : ℕ) → (codes "k" ++ spaced (decimal k ∷ [])) ++ newline ≡ k_line k
 k_text k = ap (λ l. codes "k " ++ (l ++ newline)) (append-nil (decimal k))
 
-open_text : (at : ℕ) → (codes "open" ++ spaced (hex8 at ∷ [])) ++ newline ≡ open_line at
+pub open_text : (at : ℕ) → (codes "open" ++ spaced (hex8 at ∷ [])) ++ newline ≡ open_line at
 open_text at = ap (λ l. codes "open " ++ (l ++ newline)) (append-nil (hex8 at))
 
-row_head : (at : ℕ) → (codes "row" ++ spaced (hex8 at ∷ [])) ++ newline ≡ row_line at
+pub row_head : (at : ℕ) → (codes "row" ++ spaced (hex8 at ∷ [])) ++ newline ≡ row_line at
 row_head at = ap (λ l. codes "row " ++ (l ++ newline)) (append-nil (hex8 at))
 
-end_text : (n : ℕ) → (codes "end" ++ spaced (decimal n ∷ [])) ++ newline ≡ end_line n
+pub end_text : (n : ℕ) → (codes "end" ++ spaced (decimal n ∷ [])) ++ newline ≡ end_line n
 end_text n = ap (λ l. codes "end " ++ (l ++ newline)) (append-nil (decimal n))
 
 spaced-values : (vs : List Bounded) → spaced (map value_text vs) ≡ flat_map (λ v. space ++ value_text v) vs
 spaced-values [] = refl
 spaced-values (v ∷ vs) = ap (λ l. (space ++ value_text v) ++ l) (spaced-values vs)
 
-regs_text : (vs : List Bounded) → (codes "regs" ++ spaced (map value_text vs)) ++ newline ≡ regs_line vs
+pub regs_text : (vs : List Bounded) → (codes "regs" ++ spaced (map value_text vs)) ++ newline ≡ regs_line vs
 unfolding regs_line
 regs_text vs = ap (λ l. (codes "regs" ++ l) ++ newline) (spaced-values vs)
 
-flags_text : (ts : List Truth) → (codes "flags" ++ spaced (map truth_code ts ∷ [])) ++ newline ≡ flags_line ts
+pub flags_text : (ts : List Truth) → (codes "flags" ++ spaced (map truth_code ts ∷ [])) ++ newline ≡ flags_line ts
 unfolding flags_line
 flags_text ts = ap (λ l. codes "flags " ++ (l ++ newline)) (append-nil (map truth_code ts))
 
-note_text : (n : Note) → (codes "note" ++ spaced (note_list n)) ++ newline ≡ note_line (Some n)
+two_fields : (a b : List ℕ) → (a ++ 32 ∷ (b ++ [])) ++ newline ≡ a ++ space ++ b ++ newline
+two_fields a b = simp (append_assoc, append-nil)
+
+three_fields : (a b c : List ℕ) → (a ++ 32 ∷ (b ++ 32 ∷ (c ++ []))) ++ newline ≡ a ++ space ++ b ++ space ++ c ++ newline
+three_fields a b c = simp (append_assoc, append-nil)
+
+four_fields : (a b c d : List ℕ) → (a ++ 32 ∷ (b ++ 32 ∷ (c ++ 32 ∷ (d ++ [])))) ++ newline ≡ a ++ space ++ b ++ space ++ c ++ space ++ d ++ newline
+four_fields a b c d = simp (append_assoc, append-nil)
+
+pub note_text : (n : Note) → (codes "note" ++ spaced (note_list n)) ++ newline ≡ note_line (Some n)
 unfolding note_line
-note_text (Register r c) = simp (append_assoc, append-nil)
-note_text (Word o c) = simp (append_assoc, append-nil)
+note_text (Register r c) = ap (λ l. codes "note reg " ++ l) (two_fields (decimal r) (hex8 c))
+note_text (Word o c) = ap (λ l. codes "note word " ++ l) (two_fields (offset_text o) (hex8 c))
 
-fact_text : (f : Fact Bounded) → (codes "fact" ++ spaced (fact_list f)) ++ newline ≡ fact_line f
+pub fact_text : (f : Fact Bounded) → (codes "fact" ++ spaced (fact_list f)) ++ newline ≡ fact_line f
 unfolding fact_line
-fact_text f = simp (append_assoc, append-nil)
+fact_text f = ap (λ l. codes "fact " ++ l) (four_fields (area_text f.area) (offset_text f.low) (decimal (bytes_of f.w)) (value_text f.value))
 
-dirty_text : (r : Dirty) → (codes "dirty" ++ spaced (dirty_list r)) ++ newline ≡ dirty_line r
+pub dirty_text : (r : Dirty) → (codes "dirty" ++ spaced (dirty_list r)) ++ newline ≡ dirty_line r
 unfolding dirty_line
-dirty_text r = simp (append_assoc, append-nil)
+dirty_text r = ap (λ l. codes "dirty " ++ l) (three_fields (area_text r.area) (offset_text r.low) (offset_text r.size))
 
-block_text : (c : Counted) → (codes "block" ++ spaced (block_list c)) ++ newline ≡ block_line c
+pub block_text : (c : Counted) → (codes "block" ++ spaced (block_list c)) ++ newline ≡ block_line c
 unfolding block_line
-block_text c = simp (append_assoc, append-nil)
+block_text c = ap (λ l. codes "block " ++ l) (two_fields (region_text c.region) (count_text c.many))
 
 -- ---- before the rows
 
@@ -169,14 +181,17 @@ header_by r t line kept h =
     let u : Reading = record r { stage = stages.Header } in
     let i : (bytes_eq line header_text ≡ true) × (Ok u ≡ Ok t) = if_ok (bytes_eq line header_text) HEADER (Ok u) t h in
     subst (λ (x : Reading). Adds stages.Start r x line) (same_ok u t i.1) (record {
-      kept = record { begun = kept.begun; k = tt; marked = kept.marked; rows = kept.rows };
+      kept = record { begun = kept.begun; k = tt; marked = kept.marked; rows = kept.rows; made = kept.made };
       text = sym (ap (λ l. l ++ newline) (same_word line header_text i.0));
       image = refl;
     })
 
+two_nils : (xs : List ℕ) → (xs ++ []) ++ [] ≡ xs
+two_nils xs = append-nil (xs ++ []) ∙ append-nil xs
+
 k_added : (k : ℕ) (marked : List ℕ) (rows : List (ℕ × Known Bounded)) (line : List ℕ) → marked ≡ [] → rows ≡ [] → line ≡ k_line k
     → header_text ++ newline ++ k_line k ++ flat_map open_line marked ++ flat_map row_text rows ≡ (header_text ++ newline) ++ line
-k_added k marked rows line unmarked empty is = rw (unmarked, empty, is) (simp (append_assoc, append-nil))
+k_added k marked rows line unmarked empty is = rw (unmarked, empty, is) (two_nils ((header_text ++ newline) ++ k_line k))
 
 k_by : (r t : Reading) (line : List ℕ) (fs : List (List ℕ)) → KeepsAt stages.Header r → fields line ≡ fs → k_step r fs ≡ Ok t → Adds stages.Header r t line
 k_by r t line [] kept parts h = cc
@@ -188,7 +203,7 @@ k_by r t line (word ∷ fs) kept parts h =
     let whole : line ++ newline ≡ k_line f.0 = ap (λ l. l ++ newline) (worded line word (codes "k") fs (decimal f.0 ∷ []) parts w.0 told_k.0) ∙ k_text f.0 in
     let u : Reading = record r { stage = stages.Marks; k = f.0 } in
     subst (λ (x : Reading). Adds stages.Header r x line) (same_ok u t f.2) (record {
-      kept = record { begun = (kept.begun.1, kept.begun.2); k = told_k.1; marked = kept.marked; rows = kept.rows };
+      kept = record { begun = (kept.begun.1, kept.begun.2); k = told_k.1; marked = kept.marked; rows = kept.rows; made = kept.made };
       text = k_added f.0 r.marked r.rows (line ++ newline) kept.begun.0 kept.begun.1 whole;
       image = refl;
     })
@@ -226,7 +241,7 @@ mark_by r t line at kept here whole h =
     let u : Reading = record r { marked = r.marked ++ at ∷ [] } in
     let i : (follows_last nat_lt r.marked at ≡ true) × (Ok u ≡ Ok t) = if_ok (follows_last nat_lt r.marked at) ORDER (Ok u) t h in
     let marks : ascend is_above (r.marked ++ at ∷ []) ≡ true = ascend_more is_above r.marked at kept.marked i.0 in
-    let own : KeepsAt stages.Marks u = record { begun = kept.begun; k = kept.k; marked = marks; rows = kept.rows } in
+    let own : KeepsAt stages.Marks u = record { begun = kept.begun; k = kept.k; marked = marks; rows = kept.rows; made = kept.made } in
     let P : Stage → Type 0 = λ s. KeepsAt s u in
     let said_u : said_at r.stage u ≡ front u = ap (λ s. said_at s u) here in
     subst (λ (x : Reading). Adds stages.Marks r x line) (same_ok u t i.1) (record {
@@ -244,7 +259,8 @@ pub record IsWhole (stage : Stage) (r u : Reading) : Type 0 where
   pub clear : IsClear u.state
   pub k : is_k u.k ≡ true
   pub marked : ascend is_above u.marked ≡ true
-  pub rows : All (λ row. HasImageBytes u.image row.1) u.rows
+  pub rows : All (λ row. IsStateOf u.image row.1) u.rows
+  pub made : are_made u.state ≡ true
 
 row_by : (stage : Stage) (r u t : Reading) (line word : List ℕ) (fs : List (List ℕ)) → IsWhole stage r u → fields line ≡ word ∷ fs → bytes_eq word (codes "row") ≡ true → row_step u fs ≡ Ok t → Adds stage r t line
 row_by stage r u t line word fs w parts is h =
@@ -253,7 +269,7 @@ row_by stage r u t line word fs w parts is h =
     let whole : line ++ newline ≡ row_line f.0 = ap (λ l. l ++ newline) (worded line word (codes "row") fs (hex8 f.0 ∷ []) parts is (address_told fs f.0 f.1)) ∙ row_head f.0 in
     let v : Reading = record u { stage = stages.Row; at = f.0 } in
     subst (λ (x : Reading). Adds stage r x line) (same_ok v t f.2) (record {
-      kept = record { begun = w.clear; k = w.k; marked = w.marked; rows = w.rows };
+      kept = record { begun = w.clear; k = w.k; marked = w.marked; rows = w.rows; made = w.made };
       text = ap (λ l. l ++ row_line f.0) w.text ∙ ap (λ l. said_at stage r ++ l) (sym whole);
       image = w.image;
     })
@@ -284,7 +300,7 @@ end_by stage r u t line word fs w few parts is h =
     let counted : fs ≡ decimal (length u.rows) ∷ [] = count_told u fs few (f.1 ∙ ap Some i.0) in
     let whole : line ++ newline ≡ end_line (length u.rows) = ap (λ l. l ++ newline) (worded line word (codes "end") fs (decimal (length u.rows) ∷ []) parts is counted) ∙ end_text (length u.rows) in
     subst (λ (x : Reading). Adds stage r x line) (same_ok v t i.1) (record {
-      kept = record { begun = tt; k = w.k; marked = w.marked; rows = w.rows };
+      kept = record { begun = tt; k = w.k; marked = w.marked; rows = w.rows; made = w.made };
       text = ap (λ l. l ++ end_line (length u.rows)) w.text ∙ ap (λ l. said_at stage r ++ l) (sym whole);
       image = w.image;
     })
@@ -306,22 +322,30 @@ regs_by r t line (word ∷ fs) kept parts h =
     let go : List Bounded → Result Reading ℕ = λ regs. Ok (record r { stage = stages.Regs; state = record (r.state) { regs = regs } }) in
     let w : (bytes_eq word (codes "regs") ≡ true) × (or_fault FIELD (regs_fields fs) go ≡ Ok t) = if_ok (bytes_eq word (codes "regs")) WORD (or_fault FIELD (regs_fields fs) go) t h in
     let f : (vs : List Bounded) × (regs_fields fs ≡ Some vs) × (go vs ≡ Ok t) = found_ok FIELD (regs_fields fs) go t w.1 in
-    let whole : line ++ newline ≡ regs_line f.0 = ap (λ l. l ++ newline) (worded line word (codes "regs") fs (map value_text f.0) parts w.0 (regs_told fs f.0 f.1)) ∙ regs_text f.0 in
+    let values : (fs ≡ map value_text f.0) × (list_all is_made f.0 ≡ true) = regs_told fs f.0 f.1 in
+    let whole : line ++ newline ≡ regs_line f.0 = ap (λ l. l ++ newline) (worded line word (codes "regs") fs (map value_text f.0) parts w.0 values.0) ∙ regs_text f.0 in
+    let others : (list_all is_made r.state.regs ≡ true) × (list_all (λ (x : Fact Bounded). is_made x.value) r.state.facts ≡ true) = both (list_all is_made r.state.regs) (list_all (λ (x : Fact Bounded). is_made x.value) r.state.facts) kept.made in
     let u : Reading = record r { stage = stages.Regs; state = record (r.state) { regs = f.0 } } in
     subst (λ (x : Reading). Adds stages.Row r x line) (same_ok u t f.2) (record {
-      kept = record { begun = kept.begun; k = kept.k; marked = kept.marked; rows = kept.rows };
+      kept = record {
+        begun = kept.begun;
+        k = kept.k;
+        marked = kept.marked;
+        rows = kept.rows;
+        made = both_true (list_all is_made f.0) (list_all (λ (x : Fact Bounded). is_made x.value) r.state.facts) values.1 others.1;
+      };
       text = ap (λ l. (front r ++ row_line r.at) ++ l) (sym whole);
       image = refl;
     })
 
-note_line-none : note_line None ≡ []
+pub note_line-none : note_line None ≡ []
 unfolding note_line
 note_line-none = refl
 
-flags_added : (base regs : List ℕ) (flags : List Truth) (note : Option Note) (facts : List (Fact Bounded)) (dirty : List Dirty) (blocks : List Counted) (line : List ℕ)
-    → note ≡ None → facts ≡ [] → dirty ≡ [] → blocks ≡ [] → line ≡ flags_line flags
-    → base ++ (regs ++ flags_line flags ++ note_line note ++ flat_map fact_line facts ++ flat_map dirty_line dirty ++ flat_map block_line blocks) ≡ (base ++ regs) ++ line
-flags_added base regs flags note facts dirty blocks line a b c d is = rw (a, b, c, d, is) (rw note_line-none (simp (append_assoc, append-nil)))
+flags_added : (base regs : List ℕ) (flags : List Truth) (said : Option Note) (facts : List (Fact Bounded)) (dirty : List Dirty) (blocks : List Counted) (line : List ℕ)
+    → said ≡ None → facts ≡ [] → dirty ≡ [] → blocks ≡ [] → line ≡ flags_line flags
+    → base ++ (regs ++ flags_line flags ++ note_line said ++ flat_map fact_line facts ++ flat_map dirty_line dirty ++ flat_map block_line blocks) ≡ (base ++ regs) ++ line
+flags_added base regs flags said facts dirty blocks line a b c d is = rw (a, b, c, d, is) (rw note_line-none (simp (append_assoc, append-nil)))
 
 flags_by : (r t : Reading) (line : List ℕ) (fs : List (List ℕ)) → KeepsAt stages.Regs r → fields line ≡ fs → flags_step r fs ≡ Ok t → Adds stages.Regs r t line
 unfolding state_text
@@ -334,7 +358,7 @@ flags_by r t line (word ∷ fs) kept parts h =
     let u : Reading = record r { stage = stages.Flags; state = record (r.state) { flags = f.0 } } in
     let s : StateData Bounded = r.state in
     subst (λ (x : Reading). Adds stages.Regs r x line) (same_ok u t f.2) (record {
-      kept = record { begun = kept.begun; k = kept.k; marked = kept.marked; rows = kept.rows };
+      kept = record { begun = kept.begun; k = kept.k; marked = kept.marked; rows = kept.rows; made = kept.made };
       text = flags_added (front r ++ row_line r.at) (regs_line s.regs) f.0 s.note s.facts s.dirty s.blocks (line ++ newline) kept.begun.0 kept.begun.1 kept.begun.2 kept.begun.3 whole;
       image = refl;
     })
@@ -349,13 +373,14 @@ pub record IsPart (stage : Stage) (r : Reading) : Type 0 where
   pub tells : said_at stage r ≡ said_state r
   pub k : is_k r.k ≡ true
   pub marked : ascend is_above r.marked ≡ true
-  pub rows : All (λ row. HasImageBytes r.image row.1) r.rows
+  pub rows : All (λ row. IsStateOf r.image row.1) r.rows
+  pub made : are_made r.state ≡ true
 
-note_added : (base regs flags : List ℕ) (note : Option Note) (n : Note) (facts : List (Fact Bounded)) (dirty : List Dirty) (blocks : List Counted) (line : List ℕ)
-    → note ≡ None → facts ≡ [] → dirty ≡ [] → blocks ≡ [] → line ≡ note_line (Some n)
+note_added : (base regs flags : List ℕ) (said : Option Note) (n : Note) (facts : List (Fact Bounded)) (dirty : List Dirty) (blocks : List Counted) (line : List ℕ)
+    → said ≡ None → facts ≡ [] → dirty ≡ [] → blocks ≡ [] → line ≡ note_line (Some n)
     → base ++ (regs ++ flags ++ note_line (Some n) ++ flat_map fact_line facts ++ flat_map dirty_line dirty ++ flat_map block_line blocks)
-    ≡ (base ++ (regs ++ flags ++ note_line note ++ flat_map fact_line facts ++ flat_map dirty_line dirty ++ flat_map block_line blocks)) ++ line
-note_added base regs flags note n facts dirty blocks line a b c d is =
+    ≡ (base ++ (regs ++ flags ++ note_line said ++ flat_map fact_line facts ++ flat_map dirty_line dirty ++ flat_map block_line blocks)) ++ line
+note_added base regs flags said n facts dirty blocks line a b c d is =
     rw (a, b, c, d, is) (rw note_line-none (simp (append_assoc, append-nil)))
 
 fact_added : (base head : List ℕ) (facts : List (Fact Bounded)) (f : Fact Bounded) (dirty : List Dirty) (blocks : List Counted) (line : List ℕ)
@@ -372,8 +397,17 @@ block_added : (base head : List ℕ) (blocks : List Counted) (c : Counted) (line
     → base ++ (head ++ flat_map block_line (blocks ++ c ∷ [])) ≡ (base ++ (head ++ flat_map block_line blocks)) ++ line
 block_added base head blocks c line is = rw (is, flat_map-last block_line blocks c) (simp append_assoc)
 
+made_more : (s : StateData Bounded) (f : Fact Bounded) → are_made s ≡ true → is_made f.value ≡ true → are_made (record s { facts = s.facts ++ f ∷ [] }) ≡ true
+made_more s f made own =
+    let is_value : Fact Bounded → Bool = λ x. is_made x.value in
+    let h : (list_all is_made s.regs ≡ true) × (list_all is_value s.facts ≡ true) = both (list_all is_made s.regs) (list_all is_value s.facts) made in
+    let facts : list_all is_value (s.facts ++ f ∷ []) ≡ true =
+    list_all-append is_value s.facts (f ∷ []) ∙ both_true (list_all is_value s.facts) (is_made f.value && true) h.1 (both_true (is_made f.value) true own refl)
+    in
+    both_true (list_all is_made s.regs) (list_all is_value (s.facts ++ f ∷ [])) h.0 facts
+
 module _ (stage : Stage) (r t : Reading) (line : List ℕ) (part : IsPart stage r) where
-  adds : (u : Reading) → Ok u ≡ Ok t → KeepsAt u.stage u → said_at u.stage u ≡ said_state r ++ (line ++ newline) → u.image ≡ r.image → Adds stage r t line
+  adds : (u : Reading) → ◌≡◌ {A = Result Reading ℕ} (Ok u) (Ok t) → KeepsAt u.stage u → said_at u.stage u ≡ said_state r ++ (line ++ newline) → u.image ≡ r.image → Adds stage r t line
   adds u h kept text image =
       subst (λ (x : Reading). Adds stage r x line) (same_ok u t h) (record { kept = kept; text = text ∙ ap (λ l. l ++ (line ++ newline)) (sym part.tells); image = image })
 
@@ -384,19 +418,19 @@ module _ (stage : Stage) (r t : Reading) (line : List ℕ) (part : IsPart stage 
       let u : Reading = record r { stage = stages.Note; state = record (r.state) { note = Some n } } in
       let i : (is_well_note n ≡ true) × (Ok u ≡ Ok t) = if_ok (is_well_note n) CONTENT (Ok u) t h in
       let c = part.clear first in
-      adds u i.1 (record { begun = (c.1, c.2, c.3); k = part.k; marked = part.marked; rows = part.rows })
+      adds u i.1 (record { begun = (c.1, c.2, c.3); k = part.k; marked = part.marked; rows = part.rows; made = part.made })
       (note_added (front r ++ row_line r.at) (regs_line s.regs) (flags_line s.flags) s.note n s.facts s.dirty s.blocks (line ++ newline) c.0 c.1 c.2 c.3 whole) refl
 
-  fact_by : (f : Fact Bounded) → nat_le (part_of stage) 2 ≡ true → line ++ newline ≡ fact_line f → fact_step r f ≡ Ok t → Adds stage r t line
+  fact_by : (f : Fact Bounded) → nat_le (part_of stage) 2 ≡ true → is_made f.value ≡ true → line ++ newline ≡ fact_line f → fact_step r f ≡ Ok t → Adds stage r t line
   unfolding fact_step state_text
-  fact_by f on whole h =
+  fact_by f on made whole h =
       let s : StateData Bounded = r.state in
       let u : Reading = record r { stage = stages.Facts; state = record (r.state) { facts = r.state.facts ++ f ∷ [] } } in
       let content : Bool = is_sound_fact bounded f && (is_fact_of r.image f && follows_last fact_before r.state.facts f) in
       let i : (follows_last is_fact_above r.state.facts f ≡ true) × (demand content CONTENT (Ok u) ≡ Ok t) = if_ok (follows_last is_fact_above r.state.facts f) ORDER (demand content CONTENT (Ok u)) t h in
       let j : (content ≡ true) × (Ok u ≡ Ok t) = if_ok content CONTENT (Ok u) t i.1 in
       let c = part.undirtied on in
-      adds u j.1 (record { begun = c; k = part.k; marked = part.marked; rows = part.rows })
+      adds u j.1 (record { begun = c; k = part.k; marked = part.marked; rows = part.rows; made = made_more s f part.made made })
       (fact_added (front r ++ row_line r.at) (regs_line s.regs ++ flags_line s.flags ++ note_line s.note) s.facts f s.dirty s.blocks (line ++ newline) c.0 c.1 whole) refl
 
   dirty_by : (d : Dirty) → nat_le (part_of stage) 3 ≡ true → line ++ newline ≡ dirty_line d → dirty_step r d ≡ Ok t → Adds stage r t line
@@ -407,7 +441,7 @@ module _ (stage : Stage) (r t : Reading) (line : List ℕ) (part : IsPart stage 
       let content : Bool = is_sound_dirty d && (is_dirty_of r.image d && follows_last dirty_before r.state.dirty d) in
       let i : (follows_last is_dirty_above r.state.dirty d ≡ true) × (demand content CONTENT (Ok u) ≡ Ok t) = if_ok (follows_last is_dirty_above r.state.dirty d) ORDER (demand content CONTENT (Ok u)) t h in
       let j : (content ≡ true) × (Ok u ≡ Ok t) = if_ok content CONTENT (Ok u) t i.1 in
-      adds u j.1 (record { begun = part.uncounted on; k = part.k; marked = part.marked; rows = part.rows })
+      adds u j.1 (record { begun = part.uncounted on; k = part.k; marked = part.marked; rows = part.rows; made = part.made })
       (dirty_added (front r ++ row_line r.at) (regs_line s.regs ++ flags_line s.flags ++ note_line s.note ++ flat_map fact_line s.facts) s.dirty d s.blocks (line ++ newline) (part.uncounted on) whole) refl
 
   block_by : (c : Counted) → line ++ newline ≡ block_line c → block_step r c ≡ Ok t → Adds stage r t line
@@ -417,13 +451,13 @@ module _ (stage : Stage) (r t : Reading) (line : List ℕ) (part : IsPart stage 
       let u : Reading = record r { stage = stages.Blocks; state = record (r.state) { blocks = r.state.blocks ++ c ∷ [] } } in
       let i : (follows_last count_before r.state.blocks c ≡ true) × (demand (is_block c) CONTENT (Ok u) ≡ Ok t) = if_ok (follows_last count_before r.state.blocks c) ORDER (demand (is_block c) CONTENT (Ok u)) t h in
       let j : (is_block c ≡ true) × (Ok u ≡ Ok t) = if_ok (is_block c) CONTENT (Ok u) t i.1 in
-      adds u j.1 (record { begun = tt; k = part.k; marked = part.marked; rows = part.rows })
+      adds u j.1 (record { begun = tt; k = part.k; marked = part.marked; rows = part.rows; made = part.made })
       (block_added (front r ++ row_line r.at) (regs_line s.regs ++ flags_line s.flags ++ note_line s.note ++ flat_map fact_line s.facts ++ flat_map dirty_line s.dirty) s.blocks c (line ++ newline) whole) refl
 
 part_at : (stage : Stage) (r : Reading) → nat_le (part_of stage) 4 ≡ true → KeepsAt stage r → (said_at stage r ≡ said_state r) → (is_k r.k ≡ true)
     → (nat_lt (part_of stage) 1 ≡ true → IsClear r.state) → (nat_le (part_of stage) 2 ≡ true → (r.state.dirty ≡ []) × (r.state.blocks ≡ [])) → (nat_le (part_of stage) 3 ≡ true → r.state.blocks ≡ []) → IsPart stage r
 part_at stage r four kept tells k clear undirtied uncounted =
-    record { clear = clear; undirtied = undirtied; uncounted = uncounted; tells = tells; k = k; marked = kept.marked; rows = kept.rows }
+    record { clear = clear; undirtied = undirtied; uncounted = uncounted; tells = tells; k = k; marked = kept.marked; rows = kept.rows; made = kept.made }
 
 never : {A : Type 0} → false ≡ true → A
 never e = absurd (cc)
@@ -453,9 +487,15 @@ part-blocks r kept = part_at stages.Blocks r refl kept refl kept.k (λ e. never 
 
 -- ---- the end of a state
 
+four_parts : (a b c d : List ℕ) → a ++ (b ++ (c ++ d)) ≡ ((a ++ b) ++ c) ++ d
+four_parts a b c d = simp append_assoc
+
 rows_added : (base : List ℕ) (rows : List (ℕ × Known Bounded)) (at : ℕ) (s : Known Bounded) (p : StateData Bounded) → plain_of s ≡ p
     → base ++ flat_map row_text (rows ++ (at, s) ∷ []) ≡ ((base ++ flat_map row_text rows) ++ row_line at) ++ state_text p
-rows_added base rows at s p is = rw (flat_map-last row_text rows (at, s), is) (simp append_assoc)
+rows_added base rows at s p is =
+    ap (λ l. base ++ l) (flat_map-last row_text rows (at, s))
+    ∙ ap (λ (q : StateData Bounded). base ++ (flat_map row_text rows ++ (row_line at ++ state_text q))) is
+    ∙ four_parts base (flat_map row_text rows) (row_line at) (state_text p)
 
 closed_by-ok : (r u : Reading) (o : Option (Known Bounded)) → built bounded r.image r.state ≡ o → closed_by o r ≡ Ok u
     → (s : Known Bounded) × (built bounded r.image r.state ≡ Some s) × (let v : Reading = record r { rows = r.rows ++ (r.at, s) ∷ []; state = no_state } in v ≡ u)
@@ -473,7 +513,8 @@ whole_of stage r u part h =
       clear = (refl, refl, refl, refl);
       k = part.k;
       marked = part.marked;
-      rows = All-push (λ (row : ℕ × Known Bounded). HasImageBytes r.image row.1) r.rows (r.at, c.0) part.rows b.1;
+      rows = All-push (λ (row : ℕ × Known Bounded). IsStateOf r.image row.1) r.rows (r.at, c.0) part.rows (record { bytes = b.1; made = ap are_made b.0 ∙ part.made });
+      made = refl;
     })
 
 -- ---- a text has at least as many bytes as rows
@@ -542,7 +583,7 @@ module _ (stage : Stage) (r t : Reading) (line : List ℕ) (part : IsPart stage 
       → Adds stage r t line
   other_by word fs true dirty block true third parts b c d q s h =
       let f : (x : Fact Bounded) × (fact_fields fs ≡ Some x) × (fact_step r x ≡ Ok t) = found_ok FIELD (fact_fields fs) (fact_step r) t h in
-      fact_by stage r t line part f.0 q (ap (λ l. l ++ newline) (worded line word (codes "fact") fs (fact_list f.0) parts b (fact_told fs f.0 f.1)) ∙ fact_text f.0) f.2
+      fact_by stage r t line part f.0 q (fact_made fs f.0 f.1) (ap (λ l. l ++ newline) (worded line word (codes "fact") fs (fact_list f.0) parts b (fact_told fs f.0 f.1)) ∙ fact_text f.0) f.2
   other_by word fs true dirty block false third parts b c d q s h = last_by word fs dirty block third parts c d s h
   other_by word fs false dirty block second third parts b c d q s h = last_by word fs dirty block third parts c d s h
 
@@ -580,7 +621,7 @@ mark_or_next r t line word fs true here kept short parts e h =
     let f : (at : ℕ) × (address_fields fs ≡ Some at) × (mark_step r at ≡ Ok t) = found_ok FIELD (address_fields fs) (mark_step r) t h in
     mark_by r t line f.0 kept here (ap (λ l. l ++ newline) (worded line word (codes "open") fs (hex8 f.0 ∷ []) parts e (address_told fs f.0 f.1)) ∙ open_text f.0) f.2
 mark_or_next r t line word fs false here kept short parts e h =
-    let w : IsWhole stages.Marks r r = record { text = refl; image = refl; clear = kept.begun.1; k = kept.k; marked = kept.marked; rows = kept.rows } in
+    let w : IsWhole stages.Marks r r = record { text = refl; image = refl; clear = kept.begun.1; k = kept.k; marked = kept.marked; rows = kept.rows; made = kept.made } in
     after_whole stages.Marks r r t line word fs w (few_rows r short) parts h
 
 marks_told : (r t : Reading) (line : List ℕ) (fs : List (List ℕ)) → r.stage ≡ stages.Marks → KeepsAt stages.Marks r → length (front r) < 2 ^ 64 → fields line ≡ fs → mark_or_next_step r fs ≡ Ok t → Adds stages.Marks r t line
@@ -675,7 +716,7 @@ k_over stages.Dirty k e h = cc
 k_over stages.Blocks k e h = cc
 
 keeps_nothing : (image : Image) → KeepsAt stages.Start (nothing image)
-keeps_nothing image = record { begun = (refl, refl, refl, refl, refl, refl); k = tt; marked = refl; rows = All-nil _ }
+keeps_nothing image = record { begun = (refl, refl, (refl, refl, refl, refl)); k = tt; marked = refl; rows = All-nil _; made = refl }
 
 at_most : (a b : ℕ) → nat_le a b ≡ true → a ≤ b
 at_most a b e = grind (arith, nat_tests)
@@ -687,7 +728,7 @@ table_by : (image : Image) (text : List ℕ) (r : Reading) → Told (nothing ima
 unfolding lines table_text
 table_by image text r is =
     let bounds = both (nat_le 1 r.k) (nat_le r.k 1024) (k_over r.stage r.k is.over is.kept.k) in
-    let P : Image → Type 0 = λ i. All (λ (row : ℕ × Known Bounded). HasImageBytes i row.1) r.rows in (
+    let P : Image → Type 0 = λ i. All (λ (row : ℕ × Known Bounded). IsStateOf i row.1) r.rows in (
       record { k_least = at_most 1 r.k bounds.0; k_greatest = at_most r.k 1024 bounds.1; marked = is.kept.marked; rows = subst P is.image is.kept.rows },
       sym (said_over r.stage r is.over) ∙ is.text ∙ join_with_byte-slice_split 10 text,
     )

@@ -1,4 +1,4 @@
--- What a closed table says of the machine's runs, and what the texts of tables keep.
+-- What a closed table says of the machine's runs.
 use Rattle.std.specs.Prelude.{ℕ, ◌≡◌, ◌<◌, ◌^◌, ◌≤◌, List, length, map, slice_get, Contains, All, Ok, true, Bool, Option}
 use Rattle.std.specs.List.{list_all}
 use Rattle.memory_map.specs.Image.{Image, IsLoaded}
@@ -9,18 +9,11 @@ use Rattle.flow_log.specs.Run.{Follows, IsRun}
 use Rattle.flow_log.specs.Sound.{IsClosed, IsKnown}
 use Rattle.x86_machine.specs.Machine.{machine_of}
 use Rattle.domain_laws.specs.Laws.{Values}
-use Rattle.bounded_values.specs.declared.value.Bounded.{Bounded}
-use Rattle.bounded_values.specs.BoundedLaws.{bounded}
 use Rattle.abstract_state.specs.State.{IsWellState}
-use Rattle.abstract_state.specs.Building.{HasImageBytes}
 use Rattle.abstract_state.specs.Describes.{IsDescribed}
 use Rattle.flow_worklist.specs.Analysis.{analysis_of}
-use Rattle.partitioned_memory.specs.Building.{ascend}
-use Rattle.std.specs.Prelude.{nat_lt}
 use Rattle.table_check.specs.declared.table.Table.{Table}
 use Rattle.table_check.specs.Closed.{IsYes, table_answer, table_edges}
-use Rattle.table_check.specs.Reading.{table_read}
-use Rattle.table_check.specs.Text.{table_text}
 
 -- ---- closed tables
 
@@ -38,22 +31,6 @@ module _ {D : Type 0} (d : Values D) (image : Image) (stubs : StatedStubs) (t : 
   RunsAreFollowedBy =
       (m : MachineState) (states : List MachineState) → Start image m → IsRun (machine_of image stubs) m states →
       Follows (machine_of image stubs) (IsKnown (machine_of image stubs) (IsDescribed d image) t.rows) IsMarked (table_edges d image stubs t) m states
-
--- ---- texts
-
-abbrev pub is_above : ℕ → ℕ → Bool
-is_above a b = nat_lt a b
-
--- a table whose k is one, whose marks ascend, and whose states are of the image
-pub record IsTableOf (image : Image) (t : Table Bounded) : Type 0 where
-  pub k_least : 1 ≤ t.k
-  pub k_greatest : t.k ≤ 1024
-  pub marked : ascend is_above t.marked ≡ true
-  pub rows : All (λ row. HasImageBytes image row.1) t.rows
-
--- what a text tells is a table of the image, whose text it is
-abbrev pub TextsTellTables : Type 0
-TextsTellTables = (image : Image) (text : List ℕ) (t : Table Bounded) → length text < 2 ^ 64 → table_read image text ≡ Ok t → IsTableOf image t × (table_text t ≡ text)
 
 -- ---- closed tables of well states
 

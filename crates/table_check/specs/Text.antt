@@ -1,5 +1,5 @@
 -- The text of a table, version 1: lines of ASCII, each ended by one byte 0A.
-use Rattle.std.specs.Prelude.{ℕ, Bool, true, false, List, [], ◌∷◌, ◌++◌, length, map, Option, None, Some, codes, decimal, flat_map, ℤ}
+use Rattle.std.specs.Prelude.{ℕ, Bool, true, false, List, [], ◌++◌, length, map, Option, None, Some, codes, decimal, flat_map, ℤ}
 use Rattle.text_fields.specs.Hex.{hex8}
 use Rattle.text_fields.specs.Line.{newline, space}
 use Rattle.bit_words.specs.declared.width.Width.TheVariants.{B32}

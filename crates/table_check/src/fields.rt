@@ -1,6 +1,4 @@
-ghost use Rattle.std.specs.Prelude.{◌≡◌, ◌≤◌, ◌<◌, ◌^◌, ◌==◌, IfOk, IfSome, MatchOption, length, option_map, position};
-ghost use Rattle.bit_words.specs.declared.width.Width.TheVariants.{B32};
-ghost use Rattle.bit_words.specs.Width.{signed_of};
+ghost use Rattle.std.specs.Prelude.{◌≡◌, ◌==◌, IfOk, MatchOption, option_map, position};
 ghost use Rattle.table_check.specs.Fields.{address_fields, area_of, bit_of, block_by, block_fields, block_of, cut_at, dirty_fields, fact_fields, flags_fields, flags_of, inside_in, inside_of, k_fields, k_of, low_in, many_of, note_fields, place_by, place_of, plain_value, region_of, register_note, register_of, regs_fields, truth_of, truths_by, value_of, width_of, window_of, word_note};
 ghost use Rattle.text_fields.specs.Fields.{Lacks, Reads};
 

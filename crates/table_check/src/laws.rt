@@ -1,12 +1,7 @@
 ghost use Rattle.domain_laws.specs.Made.{values_of};
-ghost use Rattle.table_check.specs.Laws.{ClosedTablesAreFollowed, TextsTellTables};
+ghost use Rattle.table_check.specs.Laws.{ClosedTablesAreFollowed};
 
 use domain_laws::Domain;
-
-/// A law: what a text tells of an image is a table of that image, whose text it is.
-pub fn texts_tell_tables()
-    ensures { TextsTellTables }
-{}
 
 /// A law: a table of which no row fails is closed, and from every allowed start no run leaves it before it first stands at a marked
 /// location: some row describes each of its states, and each of its steps is an edge of the table.

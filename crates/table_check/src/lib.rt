@@ -16,9 +16,11 @@ mod stage;
 mod table;
 #[cfg(test)]
 mod tests;
+mod text_laws;
 
 pub use checking::{TableAnswer, check_table};
-pub use laws::{closed_tables_are_followed, texts_tell_tables};
+pub use laws::closed_tables_are_followed;
 pub use print::print_table;
 pub use reader::read_table;
 pub use table::Table;
+pub use text_laws::{tables_are_read_back, texts_tell_tables};

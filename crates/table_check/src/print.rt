@@ -1,6 +1,6 @@
 ghost use Rattle.std.specs.Prelude.{◌≡◌, ◌++◌, IfOk, OnOk, flat_map, map};
-ghost use Rattle.table_check.specs.Text.{area_text, block_line, count_text, dirty_line, end_line, fact_line, flags_line, header_text, k_line, note_line, offset_text, open_line, region_text, regs_line, row_line, row_text, state_text, table_text, truth_code, value_text};
-ghost use Rattle.text_fields.specs.Line.{newline, space};
+ghost use Rattle.table_check.specs.Text.{area_text, block_line, count_text, dirty_line, end_line, fact_line, flags_line, k_line, note_line, offset_text, open_line, region_text, regs_line, row_text, state_text, table_text, truth_code, value_text};
+ghost use Rattle.text_fields.specs.Line.{space};
 
 use crate::Table;
 use abstract_state::{Note, State, StateData, Truth};
@@ -21,7 +21,7 @@ pub fn print_table(alloc: Global, t: &Table<Bounded>) -> Result<Vec<u8>, NoMemor
     push_bytes(&mut out, b"jakstab-table 1\n")?;
     push_k(&mut out, t.k)?;
     push_marks(&mut out, t.marked.as_slice())?;
-    push_rows(alloc, &mut out, t.rows.as_slice())?;
+    push_rows(&mut out, t.rows.as_slice())?;
     push_end(&mut out, t.rows.len())?;
     Ok(out)
 }
@@ -54,25 +54,21 @@ fn push_marks(out: &mut Vec<u8>, marked: &[u32]) -> Result<(), NoMemory>
 }
 
 #[tactic(auto, using(std::proofs::Common::append_assoc))]
-fn push_row(alloc: Global, out: &mut Vec<u8>, row: &(u32, State<Bounded>)) -> Result<(), NoMemory>
+fn push_row(out: &mut Vec<u8>, row: &(u32, State<Bounded>)) -> Result<(), NoMemory>
     ensures { OnOk result (out.new.items ≡ out.old.items ++ row_text row.now) }
 {
-    let plain = row.1.to_plain(alloc)?;
+    let plain = row.1.to_plain()?;
     push_bytes(out, b"row ")?;
     push_hex8(out, row.0)?;
     push_bytes(out, b"\n")?;
     push_state(out, &plain)
 }
 
-fn push_rows(
-    alloc: Global,
-    out: &mut Vec<u8>,
-    rows: &[(u32, State<Bounded>)],
-) -> Result<(), NoMemory>
+fn push_rows(out: &mut Vec<u8>, rows: &[(u32, State<Bounded>)]) -> Result<(), NoMemory>
     ensures { OnOk result (out.new.items ≡ out.old.items ++ flat_map row_text rows.now) }
 {
     for row in rows {
-        push_row(alloc, out, row)?;
+        push_row(out, row)?;
     }
     Ok(())
 }

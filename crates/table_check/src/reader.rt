@@ -472,7 +472,7 @@ impl<'a> TableReader<'a> {
 
     // The table of all lines.
     fn into_table(self) -> Table<Bounded>
-        ensures { told (Ok self) ≡ Ok result }
+        ensures { told (Ok self.entry) ≡ Ok result }
     {
         let TableReader {
             image: _,

@@ -1,6 +1,7 @@
+ghost use Rattle.std.specs.Prelude.{◌<◌, ◌^◌, length};
+
 mod checked;
 mod kept;
-mod plain;
 mod refused;
 
 use demo_images::form_e;
@@ -10,7 +11,9 @@ use std::test::Fail;
 use stub_file::Stubs;
 
 // An image of these bytes at 08048000, in one segment with these flags.
-fn image_of(alloc: Global, code: &[u8], flags: u32) -> Result<Image, Fail> {
+fn image_of(alloc: Global, code: &[u8], flags: u32) -> Result<Image, Fail>
+    requires { length code.now < 2 ^ 24 }
+{
     let bytes = form_e(alloc, code, flags)?;
     let loaded = load(alloc, &bytes).ok().ok_or("no image")?;
     Ok(loaded.bind(alloc, &Stubs::none(alloc))?)

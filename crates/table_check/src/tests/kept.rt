@@ -3,7 +3,7 @@ use crate::tests::image;
 use crate::{print_table, read_table};
 use std::test::Fail;
 
-const TEXTS: [&[u8]; 17] = [
+static TEXTS: [&[u8]; 17] = [
     b"jakstab-table 1\nk 1\nend 0\n",
     b"jakstab-table 1\nk 1024\nopen 00000000\nopen 08048000\nopen FFFFFFFF\nend 0\n",
     b"jakstab-table 1\nk 32\nrow 08048000\nregs a a a a e:stack:00000000 a a a\nflags ??????0\nend 1\n",
@@ -27,11 +27,11 @@ const TEXTS: [&[u8]; 17] = [
 fn texts_are_read_and_printed_again(rt: HostRuntime) -> Result<(), Fail> {
     let alloc = rt.alloc();
     let image = image(alloc)?;
-    for text in TEXTS {
+    for text in &TEXTS {
         match read_table(alloc, &image, text) {
             Ok(table) => {
                 let printed = print_table(alloc, &table)?;
-                assert_eq!(rt; printed.as_slice(), text);
+                assert_eq!(rt; printed.as_slice(), *text);
             }
             Err(fault) => assert!(rt; false, "{text:?}: {fault:?}"),
         }

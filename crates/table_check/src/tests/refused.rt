@@ -20,7 +20,7 @@ const FLAGS: &[u8] =
     b"jakstab-table 1\nk 32\nrow 08048000\nregs a a a a e:stack:00000000 a a a\nflags ??????0\n";
 
 // Whole texts.
-const WHOLE: [(&[u8], u64, u8); 31] = [
+static WHOLE: [(&[u8], u64, u8); 31] = [
     (b"", 1, 7),
     (b"jakstab-table 1", 1, 7),
     (b"\n", 1, 1),
@@ -55,7 +55,7 @@ const WHOLE: [(&[u8], u64, u8); 31] = [
 ];
 
 // What stands behind K.
-const AFTER_K: [(&[u8], u64, u8); 37] = [
+static AFTER_K: [(&[u8], u64, u8); 37] = [
     (b"", 3, 7),
     (b"end 0", 3, 7),
     (b"k 32\n", 3, 2),
@@ -96,7 +96,7 @@ const AFTER_K: [(&[u8], u64, u8); 37] = [
 ];
 
 // What stands behind ROW: registers, and block regions that they name.
-const AFTER_ROW: [(&[u8], u64, u8); 21] = [
+static AFTER_ROW: [(&[u8], u64, u8); 21] = [
     (b"", 4, 7),
     (b"row 08048000\n", 4, 2),
     (b"flags ??????0\n", 4, 2),
@@ -153,7 +153,7 @@ const AFTER_ROW: [(&[u8], u64, u8); 21] = [
 ];
 
 // What stands behind REGS.
-const AFTER_REGS: [(&[u8], u64, u8); 16] = [
+static AFTER_REGS: [(&[u8], u64, u8); 16] = [
     (b"", 5, 7),
     (b"regs a a a a e:stack:00000000 a a a\n", 5, 2),
     (b"row 08048000\n", 5, 2),
@@ -173,7 +173,7 @@ const AFTER_REGS: [(&[u8], u64, u8); 16] = [
 ];
 
 // What stands behind FLAGS: first words and their order.
-const WORDS: [(&[u8], u64, u8); 26] = [
+static WORDS: [(&[u8], u64, u8); 26] = [
     (b"", 6, 7),
     (b"end 1", 6, 7),
     (b"x\n", 6, 2),
@@ -227,7 +227,7 @@ const WORDS: [(&[u8], u64, u8); 26] = [
 ];
 
 // Behind FLAGS: notes.
-const NOTES: [(&[u8], u64, u8); 22] = [
+static NOTES: [(&[u8], u64, u8); 22] = [
     (b"note\n", 6, 3),
     (b"note \n", 6, 3),
     (b"note reg\n", 6, 3),
@@ -253,7 +253,7 @@ const NOTES: [(&[u8], u64, u8); 22] = [
 ];
 
 // Behind FLAGS: facts.
-const FACTS: [(&[u8], u64, u8); 57] = [
+static FACTS: [(&[u8], u64, u8); 57] = [
     (b"fact\n", 6, 3),
     (b"fact stack 00000000 4\n", 6, 3),
     (b"fact stack 00000000 4 00000000 \n", 6, 3),
@@ -398,7 +398,7 @@ const FACTS: [(&[u8], u64, u8); 57] = [
 ];
 
 // Behind FLAGS: dirty ranges.
-const DIRTY: [(&[u8], u64, u8); 30] = [
+static DIRTY: [(&[u8], u64, u8); 30] = [
     (b"dirty\n", 6, 3),
     (b"dirty image 08048000\n", 6, 3),
     (b"dirty image 08048000 1\n", 6, 3),
@@ -464,7 +464,7 @@ const DIRTY: [(&[u8], u64, u8); 30] = [
 ];
 
 // Behind FLAGS: counts of blocks.
-const BLOCKS: [(&[u8], u64, u8); 19] = [
+static BLOCKS: [(&[u8], u64, u8); 19] = [
     (b"block\n", 6, 3),
     (b"block stack\n", 6, 3),
     (b"block stack two\n", 6, 3),
@@ -503,7 +503,7 @@ const BLOCKS: [(&[u8], u64, u8); 19] = [
 ];
 
 // Behind FLAGS: block regions that are named, and their counts.
-const COUNTS: [(&[u8], u64, u8); 23] = [
+static COUNTS: [(&[u8], u64, u8); 23] = [
     (b"fact b.08048005.00000004.0 00000000 4 00000000\n", 7, 7),
     (
         b"fact b.08048005.00000004.0 00000000 4 00000000\nend 1",
@@ -610,7 +610,7 @@ const COUNTS: [(&[u8], u64, u8); 23] = [
 ];
 
 // Fields that are no values.
-const NO_VALUES: [&[u8]; 54] = [
+static NO_VALUES: [&[u8]; 54] = [
     b"",
     b"A",
     b"aa",
@@ -719,8 +719,8 @@ fn states_are_refused(rt: HostRuntime) -> Result<(), Fail> {
 
 #[test]
 fn values_are_refused(rt: HostRuntime) -> Result<(), Fail> {
-    for value in NO_VALUES {
-        let text = joined(rt.alloc(), &[ROW, b"regs ", value, b" a a a a a a a\n"])?;
+    for value in &NO_VALUES {
+        let text = joined(rt.alloc(), &[ROW, b"regs ", *value, b" a a a a a a a\n"])?;
         check(&rt, rt.alloc(), &text, 4, 3)?;
     }
     Ok(())
