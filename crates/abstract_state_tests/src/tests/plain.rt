@@ -10,7 +10,7 @@ type CountRow = (Region, bool);
 
 // How many registers and flags there are, the note, facts, dirty ranges and counts.
 type Lists = (
-    usize,
+    u32,
     usize,
     Option<Note>,
     &'static [FactRow],
@@ -317,10 +317,10 @@ fn counts_of(alloc: Global, rows: &[CountRow]) -> Result<Vec<Counted>, Fail> {
 }
 
 // So many registers, each of its own number.
-fn registers(alloc: Global, n: usize) -> Result<Vec<FlatNumbers>, Fail> {
+fn registers(alloc: Global, n: u32) -> Result<Vec<FlatNumbers>, Fail> {
     let mut values = Vec::new(alloc);
     for r in 0..n {
-        values.push(FlatNumbers::Number(r as u32))?;
+        values.push(FlatNumbers::Number(r))?;
     }
     Ok(values)
 }
