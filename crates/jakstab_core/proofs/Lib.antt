@@ -5,4 +5,3 @@ pub mod Printing
 pub mod Saying
 pub mod Finding
 pub mod Starting
-pub mod Tabling

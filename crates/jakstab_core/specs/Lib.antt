@@ -6,4 +6,3 @@ pub mod Tasks
 pub mod Says
 pub mod Laws
 pub mod Due
-pub mod Tables

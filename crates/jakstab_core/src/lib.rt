@@ -37,14 +37,10 @@ mod second_list_tests;
 mod status;
 mod summary;
 #[cfg(test)]
-mod table_tests;
-mod tables;
-#[cfg(test)]
 mod tests;
 mod top;
 mod work;
 
 pub use laws::replays_find_edges;
 pub use status::{Input, Status};
-pub use tables::table_of;
 pub use top::jakstab;
