@@ -14,8 +14,10 @@ use Rattle.abstract_state.specs.declared.seen.Holder.{Holder}
 use Rattle.abstract_state.specs.State.{IsWellState, Known, covers_state}
 use Rattle.abstract_state.specs.Widening.{seen_of, seen_with}
 use Rattle.flow_worklist.specs.declared.visits.Visits.{Visits}
+use Rattle.flow_worklist.specs.declared.row_index.RowIndex.{RowIndex}
 use Rattle.flow_worklist.specs.Covering.{covers_at, covers_by, states_of}
-use Rattle.flow_worklist.specs.Exploring.{IsOf, IsKept, IsSeenOf, seen_in}
+use Rattle.flow_worklist.specs.Grouping.{IsIndexOf}
+use Rattle.flow_worklist.specs.Exploring.{IsOf, IsKept, IsSeenOf, index_in, seen_in}
 
 fold_more : {A X : Type 0} (f : A → X → A) (a : A) (xs : List X) (x : X) → fold f a (xs ++ x ∷ []) ≡ f (fold f a xs) x
 fold_more f a [] x = refl
@@ -73,11 +75,12 @@ module _ {D : Type 0} (d : Values D) where
   seen_of-more states s = fold_more (λ seen t. seen_with d t seen) [] states s
 
   -- nothing is kept of a location that has no row
-  pub is_new : (v : Visits D) (at : ℕ) (rows : List (Row (Known D))) → v.numbers.items ≡ [] → seen_in v ≡ None → rows_at at rows ≡ [] → IsOf d v at rows
-  is_new v at rows none unseen empty = record {
+  pub is_new : (v : Visits D) (at : ℕ) (rows : List (Row (Known D))) → v.numbers.items ≡ [] → seen_in v ≡ None → index_in v ≡ None → rows_at at rows ≡ [] → IsOf d v at rows
+  is_new v at rows none unseen unindexed empty = record {
     numbers = ap (map (slice_get rows)) none ∙ sym (ap (map Some) empty);
     well = subst (Every (IsWellState d)) (sym (states_are at rows ∙ ap (map (λ (row : Row (Known D)). row.state)) empty)) tt;
     seen = (let P : Option (List (Holder × D)) → Type 0 = λ o. IsSeenOf d o (states_at at rows) in subst P (sym unseen) tt);
+    indexed = (let P : Option RowIndex → Type 0 = λ o. IsIndexOf d o (states_at at rows) in subst P (sym unindexed) tt);
   }
 
   -- as many states as numbers
@@ -97,8 +100,9 @@ module _ {D : Type 0} (d : Values D) where
   pub is_more : (v w : Visits D) (at : ℕ) (rows : List (Row (Known D))) (row : Row (Known D)) (s : Known D) → row.state ≡ s → (row.location == at) ≡ true → IsWellState d s → IsOf d v at rows
       → w.numbers.items ≡ v.numbers.items ++ length rows ∷ []
       → ((states : List (Known D)) → IsSeenOf d (seen_in v) states → IsSeenOf d (seen_in w) (states ++ s ∷ []))
+      → ((states : List (Known D)) → length states ≡ length v.numbers.items → IsIndexOf d (index_in v) states → IsIndexOf d (index_in w) (states ++ s ∷ []))
       → IsOf d w at (rows ++ row ∷ [])
-  is_more v w at rows row s stated located well h numbers seen =
+  is_more v w at rows row s stated located well h numbers seen indexed =
       let states : states_at at (rows ++ row ∷ []) ≡ states_at at rows ++ row.state ∷ [] =
       states_are at (rows ++ row ∷ []) ∙ ap (map (λ (r : Row (Known D)). r.state)) (row_here row at rows located)
       ∙ map-append (λ (r : Row (Known D)). r.state) (rows_at at rows) (row ∷ []) ∙ ap (λ l. l ++ row.state ∷ []) (sym (states_are at rows)) in
@@ -107,6 +111,8 @@ module _ {D : Type 0} (d : Values D) where
             ∙ sym (ap (map Some) (row_here row at rows located));
         well = subst (Every (IsWellState d)) (ap (λ t. states_at at rows ++ t ∷ []) (sym stated) ∙ sym states) (every_more (IsWellState d) (states_at at rows) s h.well well);
         seen = subst (IsSeenOf d (seen_in w)) (ap (λ t. states_at at rows ++ t ∷ []) (sym stated) ∙ sym states) (seen (states_at at rows) h.seen);
+        indexed = subst (IsIndexOf d (index_in w)) (ap (λ t. states_at at rows ++ t ∷ []) (sym stated) ∙ sym states)
+            (indexed (states_at at rows) (states_counted v at rows h) h.indexed);
       }
 
   -- a row more elsewhere
@@ -121,6 +127,7 @@ module _ {D : Type 0} (d : Values D) where
         numbers = numbers_kept rows (row ∷ []) v.numbers.items (rows_at q rows) h.numbers ∙ sym (ap (map Some) there);
         well = subst (Every (IsWellState d)) same h.well;
         seen = subst (IsSeenOf d (seen_in v)) same h.seen;
+        indexed = subst (IsIndexOf d (index_in v)) same h.indexed;
       }
 
   -- what is kept put back at a location

@@ -4,5 +4,7 @@ pub mod Expanding
 pub mod Marking
 pub mod Spelling
 pub mod StepSound
+pub mod Telling
+pub mod Grouping
 pub mod Indexing
 pub mod Following

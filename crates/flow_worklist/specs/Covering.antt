@@ -1,9 +1,18 @@
 -- The rows of a location by their numbers.
-use Rattle.std.specs.Prelude.{ℕ, Bool, false, List, Option, filter_map, option_map, slice_get}
+use Rattle.std.specs.Prelude.{ℕ, Bool, false, List, Option, Some, None, filter_map, option_map, slice_get}
 use Rattle.std.specs.Option.{option_map_or}
 use Rattle.domain_laws.specs.Laws.{Values}
 use Rattle.flow_log.specs.Log.{Row}
 use Rattle.abstract_state.specs.State.{Known, covers_state}
+
+-- the row of a number, where there is one
+abbrev pub row_of : {S : Type 0} → List (Row S) → Option ℕ → Option (Row S)
+row_of rows None = None
+row_of rows (Some number) = slice_get rows number
+
+-- the row at a place among those of these numbers
+abbrev pub row_nth : {S : Type 0} → List (Row S) → List ℕ → ℕ → Option (Row S)
+row_nth rows numbers place = row_of rows (slice_get numbers place)
 
 -- the states of the rows of these numbers
 abbrev pub states_of : {S : Type 0} → List (Row S) → List ℕ → List S

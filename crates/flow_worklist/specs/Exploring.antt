@@ -11,7 +11,9 @@ use Rattle.abstract_state.specs.State.{IsWellState, Known}
 use Rattle.abstract_state.specs.Widening.{seen_of}
 use Rattle.flow_worklist.specs.declared.visits.Visits.{Visits}
 use Rattle.flow_worklist.specs.declared.exploring.Exploration.{Exploration}
+use Rattle.flow_worklist.specs.declared.row_index.RowIndex.{RowIndex}
 use Rattle.flow_worklist.specs.Analysis.{ImageLog}
+use Rattle.flow_worklist.specs.Grouping.{IsIndexOf}
 
 -- the log as the code holds it
 abbrev pub log_in : {D : Type 0} → Exploration D → ImageLog D
@@ -24,17 +26,22 @@ cause_unexpanded row = if row.expanded then None else Some causes.Budget
 abbrev pub seen_in : {D : Type 0} → Visits D → Option (List (Holder × D))
 seen_in v = option_map (λ b. b.value) v.seen
 
+abbrev pub index_in : {D : Type 0} → Visits D → Option RowIndex
+index_in v = option_map (λ b. b.value) v.index
+
 module _ {D : Type 0} (d : Values D) where
   -- what states hold, where it is kept
   abbrev pub IsSeenOf : Option (List (Holder × D)) → List (Known D) → Type 0
   IsSeenOf None states = ⊤
   IsSeenOf (Some seen) states = seen ≡ seen_of d states
 
-  -- what the code keeps of a location: the numbers under which its rows stand, in order, and where there are many, what their states hold
+  -- what the code keeps of a location: the numbers under which its rows stand, in order, and where there are many, what their states hold and an index
+  -- of them
   pub record IsOf (v : Visits D) (at : ℕ) (rows : List (Row (Known D))) : Type 0 where
     pub numbers : map (slice_get rows) v.numbers.items ≡ map Some (rows_at at rows)
     pub well : Every (IsWellState d) (states_at at rows)
     pub seen : IsSeenOf (seen_in v) (states_at at rows)
+    pub indexed : IsIndexOf d (index_in v) (states_at at rows)
 
   abbrev pub IsKept : Option (Visits D) → ℕ → List (Row (Known D)) → Type 0
   IsKept None at rows = rows_at at rows ≡ []

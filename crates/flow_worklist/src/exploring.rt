@@ -150,6 +150,8 @@ impl<D: Domain> Exploration<D> {
         ensures writes { self.new.writes ≡ self.old.writes }
     {
         let number = self.rows.len();
+        let alloc = *self.rows.allocator();
+        visits.index_many(alloc, at, &self.rows)?;
         visits.add(number, &state)?;
         let row = Row::new(Some(parent), at, state, number < budget as usize);
         self.rows.push(row)?;
@@ -175,7 +177,7 @@ impl<D: Domain> Exploration<D> {
         ensures causes { self.new.causes ≡ self.old.causes }
         ensures writes { self.new.writes ≡ self.old.writes }
     {
-        if visits.covers(&self.rows, &state) {
+        if visits.covers(at, &self.rows, &state) {
             return self.put(at, visits);
         }
         self.push_row(parent, at, state, visits, budget)

@@ -7,9 +7,12 @@ mod automaton;
 mod exploring;
 mod laws;
 mod log;
+mod parting;
 mod post;
 mod reading;
+mod row_index;
 mod site;
+mod told;
 mod visits;
 
 pub use automaton::automaton_of;

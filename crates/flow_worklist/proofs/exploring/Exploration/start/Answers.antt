@@ -24,9 +24,9 @@ returns-clause-indexed g c =
     let stated : row.state ≡ c.in_ok-state.state = ap (λ r. r.state) c.new.ensures in
     let met = g.met.D.Domain g.world.𝓛 g.world.𝓜 g.world.𝓡 ((λ s x. x), (λ x. x), (λ x. x), λ x. x) in
     let well : IsWellState d c.in_ok-state.state = subst (IsWellState d) (sym c.in_ok-state.ensures) (start-is_well d met.lawful c.args.image.now) in
-    let none : IsOf d c.new-first.result at [] = is_new d c.new-first.result at [] c.new-first.ensures.numbers c.new-first.ensures.seen refl in
+    let none : IsOf d c.new-first.result at [] = is_new d c.new-first.result at [] c.new-first.ensures.numbers c.new-first.ensures.seen c.new-first.ensures.index refl in
     let one : IsOf d first at (row ∷ []) =
-    is_more d c.new-first.result first at [] row c.in_ok-state.state stated (eq-eqb row.location at located) well none c.in_ok-add.ensures.numbers c.in_ok-add.ensures.seen in
+    is_more d c.new-first.result first at [] row c.in_ok-state.state stated (eq-eqb row.location at located) well none c.in_ok-add.ensures.numbers c.in_ok-add.ensures.seen c.in_ok-add.ensures.index in
     let P : List (Row (Known g.row.D.Denot)) → Type 0 = λ l. IsOf d first at l in
     let taken : IsOf d first at rows = subst P (sym rows_are) one in
     record {

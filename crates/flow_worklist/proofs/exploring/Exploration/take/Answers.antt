@@ -11,4 +11,4 @@ returns-in-None-clause-taken g c =
     let d = values_of g.D.Domain g.D.PartialEq.eq in
     let rows = c.args.self.now.rows.items in
     let P : Option (Visits g.row.D.Denot) → Type 0 = λ o. IsKept d o c.args.at rows in
-    is_new d c.new.result c.args.at rows c.new.ensures.numbers c.new.ensures.seen (subst P (sym c.in-None.ensures.value) (c.requires.kept c.args.at))
+    is_new d c.new.result c.args.at rows c.new.ensures.numbers c.new.ensures.seen c.new.ensures.index (subst P (sym c.in-None.ensures.value) (c.requires.kept c.args.at))
