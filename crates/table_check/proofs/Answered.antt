@@ -1,5 +1,5 @@
 -- The answer by what the code finds is the table's, and a yes is the theorem.
-use Rattle.std.proofs.Common.{◌≡◌, ◌==◌, Bool, true, false, List, length, sym, subst}
+use Rattle.std.proofs.Common.{◌≡◌, ◌==◌, true, false, List, length, sym, subst}
 use Rattle.std.specs.Prelude.{All}
 use Rattle.memory_map.specs.Image.{Image, IsLoaded}
 use Rattle.stub_file.specs.Stubs.{StatedStubs}

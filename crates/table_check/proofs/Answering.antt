@@ -1,5 +1,5 @@
 -- What is found of each row tells the first one that fails, or all edges.
-use Rattle.std.proofs.Common.{◌≡◌, ℕ, zero, suc, ◌+◌, map, take, add-one, ◌==◌, Bool, true, false, List, [], ◌∷◌, ◌++◌, length, length-append, append_assoc, Option, Some, None, refl, sym, subst, ◌∙◌, ap, arith}
+use Rattle.std.proofs.Common.{◌≡◌, ℕ, zero, suc, ◌+◌, map, take, ◌==◌, Bool, true, false, List, [], ◌∷◌, ◌++◌, length, length-append, append_assoc, Option, Some, None, refl, sym, subst, ◌∙◌, ap, arith}
 use Rattle.std.specs.Prelude.{◌&&◌, IfOk, MatchResult, Result, Ok, Err, not, slice_get, flat_map, filter_map, option_map, if◌then◌else◌}
 use Rattle.std.specs.List.{AllZip, cons_option, enumerate_from, range_with_len}
 use Rattle.std.proofs.Common.{Global, Vec}

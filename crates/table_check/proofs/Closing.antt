@@ -1,16 +1,13 @@
 -- A table of which no row fails is closed, and no run leaves it before a marked location.
-use Rattle.std.proofs.Common.{◌≡◌, ℕ, zero, suc, ◌+◌, ◌<◌, ◌≤◌, ◌==◌, Bool, true, false, List, [], ◌∷◌, ◌++◌, length, map, Option, Some, None, refl, sym, ◌∙◌, ap, subst, arith, inl, inr, cond}
-use Rattle.std.specs.Prelude.{Contains, All, not, ◌&&◌, ◌||◌, slice_get, flat_map, filter_map, option_map, if◌then◌else◌}
+use Rattle.std.proofs.Common.{◌≡◌, ℕ, ◌+◌, ◌==◌, Bool, true, false, List, [], ◌∷◌, length, map, Option, Some, None, refl, sym, ◌∙◌, ap, subst, arith, inl, inr}
+use Rattle.std.specs.Prelude.{Contains, All, not, ◌&&◌, ◌||◌, slice_get, option_map, if◌then◌else◌}
 use Rattle.std.specs.List.{list_all, list_any, enumerate_from}
 use Rattle.std.proofs.lemmas.Bool.Decides.{nat_tests}
 use Rattle.memory_map.specs.Image.{Image, IsLoaded}
-use Rattle.memory_map.specs.Start.{Start}
-use Rattle.memory_map.specs.State.{MachineState}
 use Rattle.stub_file.specs.Stubs.{StatedStubs}
 use Rattle.flow_log.specs.Analysis.{Analysis}
 use Rattle.flow_log.specs.declared.edge.Edge.{Edge}
-use Rattle.flow_log.specs.Run.{Follows, IsRun}
-use Rattle.flow_log.specs.Sound.{IsClosed, IsDone, IsKnown, IsRepresented}
+use Rattle.flow_log.specs.Sound.{IsClosed, IsDone, IsRepresented}
 use Rattle.flow_log.proofs.Members.{Contains-cases, Contains-filter_map, Contains-flat_map, Contains-here, Contains-later, Contains-map, Contains-none, Contains-numbered, Contains-slice_get, position_of}
 use Rattle.flow_log.proofs.Induction.{run_follows, start_known}
 use Rattle.x86_machine.specs.Machine.{machine_of}
@@ -21,8 +18,6 @@ use Rattle.abstract_state.proofs.Starting.{starts-are_described}
 use Rattle.flow_worklist.specs.Analysis.{ImageAnalysis, analysis_of}
 use Rattle.flow_worklist.proofs.StepSound.{analysis_sound}
 use Rattle.table_check.specs.declared.table.Table.{Table}
-use Rattle.table_check.specs.declared.checking.TableAnswer.{TableAnswer}
-use Rattle.table_check.specs.declared.checking.TableAnswer.TheVariants.{Yes, No}
 use Rattle.table_check.specs.Closed.{IsYes, answer_by, broken_by, clause_broken, edges_from, edges_of, first_broken, has_no_cause, is_covered, is_marked, leads_to_rows, rows_broken, starts, table_answer, table_edges, START, CAUSE, NEXT}
 use Rattle.table_check.specs.Laws.{IsClosedTable, IsMarked, RunsAreFollowedBy}
 

@@ -1,6 +1,6 @@
 -- What is kept of each location stays true as rows come, and tells which rows are there.
-use Rattle.std.proofs.Common.{◌≡◌, ℕ, Bool, true, false, List, [], ◌∷◌, ◌++◌, length, map, cond, Option, Some, None, refl, sym, ◌∙◌, ap, subst, ◌==◌, ◌||◌, ◌&&◌, ◌+◌, ◌<◌, take, get_or, arith}
-use Rattle.std.specs.Prelude.{nat_eq, slice_get, filter, option_map, unwrap_or}
+use Rattle.std.proofs.Common.{◌≡◌, ℕ, Bool, true, false, List, [], ◌∷◌, ◌++◌, length, map, cond, Some, refl, sym, ◌∙◌, ap, subst, ◌==◌, ◌||◌, ◌&&◌, ◌+◌, ◌<◌, take, get_or, arith}
+use Rattle.std.specs.Prelude.{nat_eq, slice_get, option_map, unwrap_or}
 use Rattle.std.specs.Map.{lookup}
 use Rattle.std.specs.List.{list_any}
 use Rattle.std.specs.Option.{option_map_or}

@@ -1,7 +1,7 @@
 -- Closed rows of which the first is the start fail nowhere, where what covers a widened state covers the state.
-use Rattle.std.proofs.Common.{◌≡◌, ℕ, zero, suc, ◌+◌, ◌==◌, ◌&&◌, Bool, true, false, List, [], ◌∷◌, length, map, Option, Some, None, inl, inr, refl, sym, ◌∙◌, ap, subst, arith}
+use Rattle.std.proofs.Common.{◌≡◌, ℕ, zero, suc, ◌+◌, ◌==◌, ◌&&◌, Bool, true, false, List, [], ◌∷◌, length, map, Some, None, inl, inr, refl, sym, ◌∙◌, ap, subst, arith}
 use Rattle.std.specs.Prelude.{All, Contains, not, slice_get, filter_map, option_map, ◌⊎◌}
-use Rattle.std.specs.List.{cons_option, enumerate_from, list_all}
+use Rattle.std.specs.List.{cons_option, enumerate_from}
 use Rattle.std.specs.Cmp.{nat_cmp_total}
 use Rattle.std.proofs.lemmas.Map.Lookups.{exact_unsigned}
 use Rattle.std.specs.Ordering.{nat_cmp}
@@ -27,7 +27,7 @@ use Rattle.abstract_state.specs.Widening.{seen_of}
 use Rattle.flow_worklist.specs.Analysis.{ImageAnalysis, ImageLog, analysis_of, image_log}
 use Rattle.flow_worklist.proofs.StepSound.{analysis_sound}
 use Rattle.abstract_state.proofs.Raising.{both, nat-refl, widening-is_sound}
-use Rattle.table_check.specs.Closed.{broken_by, clause_broken, first_broken, is_covered, is_marked, rows_broken, starts}
+use Rattle.table_check.specs.Closed.{broken_by, clause_broken, first_broken, is_covered, is_marked, starts}
 use Rattle.table_check.proofs.Answering.{broken-none, broken-open, first_by, test, unbroken-marked}
 use Rattle.table_check.proofs.Covering.{all_by, any_of, covers-own, covers-through}
 

@@ -5,7 +5,6 @@ use Rattle.std.proofs.lemmas.List.{map-append, take_more}
 use Rattle.stub_file.specs.Stubs.{StatedStubs}
 use Rattle.domain_laws.specs.Laws.{Values}
 use Rattle.memory_map.specs.Image.{Image}
-use Rattle.flow_log.specs.declared.edge.Edge.{Edge}
 use Rattle.flow_log.specs.declared.edge.Label.{Label}
 use Rattle.abstract_state.specs.State.{Known}
 use Rattle.abstract_state.specs.Expanding.{Expanded}

@@ -1,5 +1,5 @@
 -- Tables of rows that are closed: what is demanded of each row, and the first one that fails, over any analysis.
-use Rattle.std.specs.Prelude.{ℕ, ◌≡◌, ◌==◌, ◌&&◌, Bool, not, List, [], ◌∷◌, length, map, flat_map, filter_map, slice_get, Contains, Option, None, Some, if◌then◌else◌, option_map}
+use Rattle.std.specs.Prelude.{ℕ, ◌==◌, ◌&&◌, Bool, not, List, [], length, map, flat_map, filter_map, slice_get, Option, None, Some, if◌then◌else◌, option_map}
 use Rattle.std.specs.List.{list_all, list_any, enumerate_from}
 use Rattle.memory_map.specs.Image.{Image}
 use Rattle.stub_file.specs.Stubs.{StatedStubs}

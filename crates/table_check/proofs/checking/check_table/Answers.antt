@@ -1,11 +1,11 @@
 -- A table without rows fails at row 0, and else the answer is that of the findings; a yes is the theorem.
-use Rattle.std.proofs.Common.{◌≡◌, ◌==◌, ◌∙◌, Bool, true, false, ℕ, List, ap, length, subst, sym}
-use Rattle.std.specs.Prelude.{All, IfOk}
+use Rattle.std.proofs.Common.{◌≡◌, ◌==◌, ◌∙◌, true, false, ℕ, List, length, subst, sym}
+use Rattle.std.specs.Prelude.{All}
 use Rattle.std.proofs.lemmas.Bool.{eq-eqb}
 use Rattle.std.proofs.lemmas.Bool.Decides.{nat_tests}
 use Rattle.std.proofs.Common.{arith}
 use Rattle.std.proofs.lemmas.Result.{IfOk-weaker}
-use Rattle.memory_map.specs.Image.{Image, IsLoaded}
+use Rattle.memory_map.specs.Image.{Image}
 use Rattle.stub_file.specs.Stubs.{StatedStubs}
 use Rattle.domain_laws.specs.Made.{values_of}
 use Rattle.abstract_state.specs.State.{IsWellState, Known}

@@ -1,5 +1,5 @@
 -- One edge more.
-use Rattle.std.proofs.Common.{◌≡◌, ◌<◌, ◌∙◌, ◌++◌, ◌∷◌, [], ℕ, ap, arith, length, map, sym}
+use Rattle.std.proofs.Common.{◌<◌, ◌∙◌, ◌++◌, ◌∷◌, [], ℕ, ap, arith, length, map, sym}
 use Rattle.std.proofs.lemmas.List.{take_all}
 use Rattle.flow_log.specs.declared.edge.Edge.{Edge}
 use Rattle.flow_log.specs.declared.edge.Label.{Label}

@@ -1,5 +1,5 @@
 -- The row's first clause that fails, or its edges.
-use Rattle.std.proofs.Common.{◌≡◌, ◌==◌, ◌&&◌, ◌∙◌, ℕ, Bool, List, true, false, ap, length, map, subst, sym}
+use Rattle.std.proofs.Common.{◌==◌, ◌&&◌, ◌∙◌, ℕ, Bool, List, true, false, ap, length, map, subst, sym}
 use Rattle.std.specs.List.{list_all, list_any}
 use Rattle.std.proofs.Crossing.{crosses}
 use denote.Param.Send.{sendable}

@@ -1,11 +1,11 @@
 -- The start, a marked row, or one at a location that is not.
-use Rattle.std.proofs.Common.{◌≡◌, ◌==◌, ◌&&◌, ◌∙◌, ℕ, Bool, true, false, ap, sym}
+use Rattle.std.proofs.Common.{◌≡◌, ◌==◌, ◌&&◌, ◌∙◌, Bool, true, false, ap, sym}
 use Rattle.std.specs.Prelude.{not}
 use Rattle.std.proofs.lemmas.Result.{IfOk-weaker}
 use Rattle.domain_laws.specs.Made.{values_of}
 use Rattle.abstract_state.specs.State.{Known, covers_state}
 use Rattle.table_check.specs.Checking.{IsExpandedOf, IsFindingOf, table_analysis}
-use Rattle.table_check.specs.Closed.{broken_by, clause_broken, edges_from, is_marked, leads_from, starts}
+use Rattle.table_check.specs.Closed.{broken_by, clause_broken, edges_from, is_marked, leads_from}
 use Rattle.table_check.proofs.Answering.{broken-open, broken-start, edges-marked, edges-open, finding-same, unbroken-marked}
 use Rattle.table_check.proofs.checking.Check.row.Goals as goal
 

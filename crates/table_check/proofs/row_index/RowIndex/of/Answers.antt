@@ -1,4 +1,4 @@
-use Rattle.std.proofs.Common.{◌≡◌, ◌<◌, List, length, take, subst, arith, ℕ}
+use Rattle.std.proofs.Common.{◌<◌, List, length, subst, arith, ℕ}
 use Rattle.std.proofs.lemmas.List.{take_all}
 use Rattle.table_check.specs.Checking.{IsIndexOf}
 use Rattle.table_check.proofs.Indexing.{index_grows, index_none}

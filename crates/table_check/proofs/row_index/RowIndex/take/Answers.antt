@@ -1,6 +1,5 @@
-use Rattle.std.proofs.Common.{rules, ◌≡◌, ℕ, ◌+◌, ◌<◌, Option, Some, None, List, [], ◌∷◌, ◌++◌, refl, sym, ap, subst, ◌∙◌, take, length, map, arith}
-use Rattle.std.specs.Prelude.{nat_eq, option_map, unwrap_or, slice_get}
-use Rattle.std.specs.HashMap.{get}
+use Rattle.std.proofs.Common.{[], ap, ◌∙◌}
+use Rattle.std.specs.Prelude.{option_map, unwrap_or}
 use Rattle.table_check.proofs.row_index.RowIndex.take.Goals as goal
 
 pub returns-in-Some-clause-taken : goal.returns-in-Some-clause-taken
