@@ -6,3 +6,4 @@ pub mod Spelling
 pub mod StepSound
 pub mod Indexing
 pub mod Following
+pub mod Taking

@@ -3,3 +3,4 @@ pub mod PostOf
 pub mod Analysis
 pub mod Exploring
 pub mod Laws
+pub mod Rounds
