@@ -16,15 +16,18 @@ import tempfile
 
 sys.path.insert(0, os.path.dirname(os.path.abspath(__file__)))
 from decode import elf, lines
-from rows import TRAFFIC, run
+from rows import run
+
+# Seven steps on the stack and in registers that leave EAX as it was.
+STEPS, STEPS_BYTES = 7, bytes.fromhex("50 8B0C24 83C105 890C24 5A 83EA05 89D0")
 
 
 def wide(values, pieces, facts):
     """Code behind `cmp eax, values - 1; ja`, with so many facts on the stack before it; and its locations, edges and rows."""
     front = b"\x6a\x07" * facts
-    body = TRAFFIC * pieces
+    body = STEPS_BYTES * pieces
     code = front + b"\x3d" + struct.pack("<I", values - 1) + b"\x0f\x87" + struct.pack("<I", len(body)) + body + b"\xf4"
-    steps = 10 * pieces
+    steps = STEPS * pieces
     return code, facts + 2 + steps + 1, facts + 2 + steps + 1
 
 

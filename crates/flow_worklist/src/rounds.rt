@@ -36,13 +36,6 @@ struct Rounds<'a, R: Threads + Sync, G: Gate> {
     gate: &'a G,
 }
 
-// Some rows, of which the first has the number `from`.
-#[derive(Drop)]
-struct Part<'a, D: Domain> {
-    from: u32,
-    rows: &'a [Row<D>],
-}
-
 // The end of the first half of some rows, at the end of a piece.
 fn half(rows: usize, piece: usize) -> usize
     requires some { 0 < piece }
@@ -80,39 +73,36 @@ impl<R: Threads + Sync, G: Gate> Rounds<'_, R, G> {
         Ok(posts)
     }
 
-    // The expansions of some rows, in order, each piece of them in a thread of its own.
+    // The expansions of rows, in order, each piece of them in a thread of its own; the first has the number `from`.
     #[cycle(halves)]
     fn posts<D: Domain>(
         &self,
         exploration: &Exploration<D>,
-        part: Part<'_, D>,
+        from: u32,
+        rows: &[Row<D>],
     ) -> Result<Vec<Post<D>>, NoMemory>
         requires piece { 0 < self.now.piece }
-        requires few { part.from + length part.rows.now < 2 ^ 32 }
-        ensures { IfOk result (λ posts. ArePosts (values_of D.Domain.own D.eq) self.now.image.now self.now.stubs.now self.now.limits.k part.entry.rows.now posts.items) }
+        requires few { from + length rows.now < 2 ^ 32 }
+        ensures { IfOk result (λ posts. ArePosts (values_of D.Domain.own D.eq) self.now.image.now self.now.stubs.now self.now.limits.k rows.now posts.items) }
     {
         let piece = self.piece as usize;
-        let from = part.from;
-        let rows = part.rows;
         if rows.len() <= piece {
             return self.piece_posts(exploration, from, rows);
         }
         let middle = half(rows.len(), piece);
         let (front, back) = rows.split_at(middle);
-        let earlier = Part { from, rows: front };
-        let later = Part {
-            from: from + middle as u32,
-            rows: back,
-        };
-        let earlier_posts = move || -> Result<Vec<Post<D>>, NoMemory>
-            requires { IsSync R.row × IsSync D.row × IsSync G.row × IsSend D.row × (0 < self.now.piece) × (earlier.from + length earlier.rows.now < 2 ^ 32) }
-            ensures { IfOk result (λ posts. ArePosts (values_of D.Domain.own D.eq) self.entry.now.image.now self.entry.now.stubs.now self.entry.now.limits.k earlier.entry.rows.now posts.items) }
-        { self.posts(exploration, earlier) };
-        let later_posts = move || -> Result<Vec<Post<D>>, NoMemory>
-            requires { IsSync R.row × IsSync D.row × IsSync G.row × IsSend D.row × (0 < self.now.piece) × (later.from + length later.rows.now < 2 ^ 32) }
-            ensures { IfOk result (λ posts. ArePosts (values_of D.Domain.own D.eq) self.entry.now.image.now self.entry.now.stubs.now self.entry.now.limits.k later.entry.rows.now posts.items) }
-        { self.posts(exploration, later) };
-        let (first, second) = join(self.rt, earlier_posts, later_posts);
+        let later = from + middle as u32;
+        let (first, second) = join(
+            self.rt,
+            || -> Result<Vec<Post<D>>, NoMemory>
+                requires { IsSync R.row × IsSync D.row × IsSync G.row × IsSend D.row × (0 < self.now.piece) × (from + length front.now < 2 ^ 32) }
+                ensures { IfOk result (λ posts. ArePosts (values_of D.Domain.own D.eq) self.entry.now.image.now self.entry.now.stubs.now self.entry.now.limits.k front.entry.now posts.items) }
+            { self.posts(exploration, from, front) },
+            || -> Result<Vec<Post<D>>, NoMemory>
+                requires { IsSync R.row × IsSync D.row × IsSync G.row × IsSend D.row × (0 < self.now.piece) × (later + length back.now < 2 ^ 32) }
+                ensures { IfOk result (λ posts. ArePosts (values_of D.Domain.own D.eq) self.entry.now.image.now self.entry.now.stubs.now self.entry.now.limits.k back.entry.now posts.items) }
+            { self.posts(exploration, later, back) },
+        );
         let mut posts = first?;
         let mut rest = second?;
         posts.append(&mut rest)?;
@@ -183,7 +173,7 @@ impl<R: Threads + Sync, G: Gate> Rounds<'_, R, G> {
         }
         let (_, rows) = exploration.rows.split_at(from as usize);
         let (round, _) = rows.split_at(size as usize);
-        let posts = self.posts(exploration, Part { from, rows: round })?;
+        let posts = self.posts(exploration, from, round)?;
         self.take_all(exploration, from, posts)?;
         Ok(())
     }
