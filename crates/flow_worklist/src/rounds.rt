@@ -47,68 +47,95 @@ fn half(rows: usize, piece: usize) -> usize
     piece.max(half - half % piece)
 }
 
+// The expansions of rows, one after another; the first has the number `from`.
+fn piece_posts<D: Domain, G: Gate>(
+    alloc: Global,
+    image: &Image,
+    stubs: &Stubs,
+    k: u32,
+    gate: &G,
+    exploration: &Exploration<D>,
+    from: u32,
+    rows: &[Row<D>],
+) -> Result<Vec<Post<D>>, NoMemory>
+    requires { from + length rows.now < 2 ^ 32 }
+    ensures { IfOk result (λ posts. ArePosts (values_of D.Domain.own D.eq) image.now stubs.now k rows.now posts.items) }
+{
+    let mut posts = Vec::new(alloc);
+    for (i, row) in rows.iter().enumerate() {
+        gate.enter(from + i as u32);
+        let post = exploration.expanded_row(alloc, image, stubs, k, row)?;
+        posts.push(post)?;
+    }
+    Ok(posts)
+}
+
+// The expansions of rows, in order, each piece of them in a thread of its own; the first has the number `from`.
+#[cycle(halves)]
+fn posts_of<R: Threads + Sync, D: Domain, G: Gate>(
+    rt: &R,
+    alloc: Global,
+    image: &Image,
+    stubs: &Stubs,
+    k: u32,
+    piece: usize,
+    gate: &G,
+    exploration: &Exploration<D>,
+    from: u32,
+    rows: &[Row<D>],
+) -> Result<Vec<Post<D>>, NoMemory>
+    requires piece { 0 < piece }
+    requires few { from + length rows.now < 2 ^ 32 }
+    ensures { IfOk result (λ posts. ArePosts (values_of D.Domain.own D.eq) image.now stubs.now k rows.now posts.items) }
+{
+    if rows.len() <= piece {
+        return piece_posts(alloc, image, stubs, k, gate, exploration, from, rows);
+    }
+    let middle = half(rows.len(), piece);
+    let (front, back) = rows.split_at(middle);
+    let later = from + middle as u32;
+    let earlier_posts = move || -> Result<Vec<Post<D>>, NoMemory>
+        requires { IsSync R.row × IsSync D.row × IsSync G.row × IsSend D.row × (0 < piece) × (from + length front.now < 2 ^ 32) }
+        ensures { IfOk result (λ posts. ArePosts (values_of D.Domain.own D.eq) image.entry.now stubs.entry.now k front.entry.now posts.items) }
+    {
+        posts_of(
+            rt,
+            alloc,
+            image,
+            stubs,
+            k,
+            piece,
+            gate,
+            exploration,
+            from,
+            front,
+        )
+    };
+    let later_posts = move || -> Result<Vec<Post<D>>, NoMemory>
+        requires { IsSync R.row × IsSync D.row × IsSync G.row × IsSend D.row × (0 < piece) × (later + length back.now < 2 ^ 32) }
+        ensures { IfOk result (λ posts. ArePosts (values_of D.Domain.own D.eq) image.entry.now stubs.entry.now k back.entry.now posts.items) }
+    {
+        posts_of(
+            rt,
+            alloc,
+            image,
+            stubs,
+            k,
+            piece,
+            gate,
+            exploration,
+            later,
+            back,
+        )
+    };
+    let (first, second) = join(rt, earlier_posts, later_posts);
+    let mut posts = first?;
+    let mut rest = second?;
+    posts.append(&mut rest)?;
+    Ok(posts)
+}
+
 impl<R: Threads + Sync, G: Gate> Rounds<'_, R, G> {
-    // The expansions of rows, one after another; the first has the number `from`.
-    fn piece_posts<D: Domain>(
-        &self,
-        exploration: &Exploration<D>,
-        from: u32,
-        rows: &[Row<D>],
-    ) -> Result<Vec<Post<D>>, NoMemory>
-        requires { from + length rows.now < 2 ^ 32 }
-        ensures { IfOk result (λ posts. ArePosts (values_of D.Domain.own D.eq) self.now.image.now self.now.stubs.now self.now.limits.k rows.now posts.items) }
-    {
-        let mut posts = Vec::new(self.alloc);
-        for (i, row) in rows.iter().enumerate() {
-            self.gate.enter(from + i as u32);
-            let post = exploration.expanded_row(
-                self.alloc,
-                self.image,
-                self.stubs,
-                self.limits.k,
-                row,
-            )?;
-            posts.push(post)?;
-        }
-        Ok(posts)
-    }
-
-    // The expansions of rows, in order, each piece of them in a thread of its own; the first has the number `from`.
-    #[cycle(halves)]
-    fn posts<D: Domain>(
-        &self,
-        exploration: &Exploration<D>,
-        from: u32,
-        rows: &[Row<D>],
-    ) -> Result<Vec<Post<D>>, NoMemory>
-        requires piece { 0 < self.now.piece }
-        requires few { from + length rows.now < 2 ^ 32 }
-        ensures { IfOk result (λ posts. ArePosts (values_of D.Domain.own D.eq) self.now.image.now self.now.stubs.now self.now.limits.k rows.now posts.items) }
-    {
-        let piece = self.piece as usize;
-        if rows.len() <= piece {
-            return self.piece_posts(exploration, from, rows);
-        }
-        let middle = half(rows.len(), piece);
-        let (front, back) = rows.split_at(middle);
-        let later = from + middle as u32;
-        let (first, second) = join(
-            self.rt,
-            || -> Result<Vec<Post<D>>, NoMemory>
-                requires { IsSync R.row × IsSync D.row × IsSync G.row × IsSend D.row × (0 < self.now.piece) × (from + length front.now < 2 ^ 32) }
-                ensures { IfOk result (λ posts. ArePosts (values_of D.Domain.own D.eq) self.entry.now.image.now self.entry.now.stubs.now self.entry.now.limits.k front.entry.now posts.items) }
-            { self.posts(exploration, from, front) },
-            || -> Result<Vec<Post<D>>, NoMemory>
-                requires { IsSync R.row × IsSync D.row × IsSync G.row × IsSend D.row × (0 < self.now.piece) × (later + length back.now < 2 ^ 32) }
-                ensures { IfOk result (λ posts. ArePosts (values_of D.Domain.own D.eq) self.entry.now.image.now self.entry.now.stubs.now self.entry.now.limits.k back.entry.now posts.items) }
-            { self.posts(exploration, later, back) },
-        );
-        let mut posts = first?;
-        let mut rest = second?;
-        posts.append(&mut rest)?;
-        Ok(posts)
-    }
-
     // Expansions taken in, in order; the first is that of the row of the number `from`.
     fn take_all<D: Domain>(
         &self,
@@ -173,7 +200,18 @@ impl<R: Threads + Sync, G: Gate> Rounds<'_, R, G> {
         }
         let (_, rows) = exploration.rows.split_at(from as usize);
         let (round, _) = rows.split_at(size as usize);
-        let posts = self.posts(exploration, from, round)?;
+        let posts = posts_of(
+            self.rt,
+            self.alloc,
+            self.image,
+            self.stubs,
+            self.limits.k,
+            self.piece as usize,
+            self.gate,
+            exploration,
+            from,
+            round,
+        )?;
         self.take_all(exploration, from, posts)?;
         Ok(())
     }

@@ -1,7 +1,0 @@
-use Rattle.std.proofs.Common.{take}
-use Rattle.domain_laws.specs.Made.{values_of}
-use Rattle.flow_worklist.specs.Rounds.{ArePosts}
-use Rattle.flow_worklist.proofs.rounds.Rounds.piece_posts.Given as goal
-
-abbrev pub invariant-loop-i : goal.invariant-loop-i
-invariant-loop-i g l = ArePosts (values_of g.D.Domain g.D.PartialEq.eq) l.self.image.now l.self.stubs.now l.self.limits.k (take l.i l.rows) l.posts.items
