@@ -11,7 +11,7 @@ use Rattle.flow_log.specs.Log.{Row, with_next_pairs, with_notes, with_expansion,
 use Rattle.abstract_state.specs.State.{Known, covers_state}
 use Rattle.abstract_state.specs.Expanding.{Expanded}
 use Rattle.flow_worklist.specs.declared.post.Post.{Post}
-use Rattle.flow_worklist.specs.PostOf.{IsLabelled, IsPostOf, IsPostOfRow}
+use Rattle.flow_worklist.specs.PostOf.{IsLabelled, IsPostOf}
 use Rattle.flow_worklist.specs.Analysis.{ImageLog, analysis_of, image_log, edge_by, edge_from, widened_by}
 
 -- a list taken in with one element more
@@ -67,24 +67,3 @@ module _ {D : Type 0} (d : Values D) (image : Image) (stubs : StatedStubs) (k bu
   pub explored_all : explored (analysis_of d image stubs k) budget budget 0 (first_log (analysis_of d image stubs k) budget) ≡ image_log d image stubs k budget
   unfolding log_of
   explored_all = refl
-
--- the row of a number whose expansion the code has
-pub record IsRowOf {D : Type 0} (d : Values D) (image : Image) (stubs : StatedStubs) (k : ℕ) (rows : List (Row (Known D))) (number : ℕ) (answer : Post D) : Type 0 where
-  pub row : Row (Known D)
-  pub at : slice_get rows number ≡ Some row
-  pub is : IsPostOf d image stubs k row.location row.state answer
-
-pub row_found : {D : Type 0} (d : Values D) (image : Image) (stubs : StatedStubs) (k : ℕ) (rows : List (Row (Known D))) (number : ℕ) (answer : Post D) → IsPostOfRow d image stubs k (slice_get rows number) (Some answer)
-    → IsRowOf d image stubs k rows number answer
-row_found {D} d image stubs k rows number answer h = found (slice_get rows number) refl h
-  where
-    found : (o : Option (Row (Known D))) → slice_get rows number ≡ o → IsPostOfRow d image stubs k o (Some answer) → IsRowOf d image stubs k rows number answer
-    found None at h' = absurd h'
-    found (Some row) at h' = record { row = row; at = at; is = h' }
-
-pub none_found : {D : Type 0} (d : Values D) (image : Image) (stubs : StatedStubs) (k : ℕ) (rows : List (Row (Known D))) (number : ℕ) → IsPostOfRow d image stubs k (slice_get rows number) None → slice_get rows number ≡ None
-none_found {D} d image stubs k rows number h = found (slice_get rows number) refl h
-  where
-    found : (o : Option (Row (Known D))) → slice_get rows number ≡ o → IsPostOfRow d image stubs k o None → slice_get rows number ≡ None
-    found None at h' = at
-    found (Some row) at h' = absurd h'

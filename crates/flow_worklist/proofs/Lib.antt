@@ -8,3 +8,4 @@ pub mod Telling
 pub mod Grouping
 pub mod Indexing
 pub mod Following
+pub mod Taking

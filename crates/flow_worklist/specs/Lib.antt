@@ -6,3 +6,4 @@ pub mod Telling
 pub mod Grouping
 pub mod Exploring
 pub mod Laws
+pub mod Rounds

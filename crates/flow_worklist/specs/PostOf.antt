@@ -1,10 +1,9 @@
 -- What the code's answer on a row says of its expansion.
-use Rattle.std.specs.Prelude.{ℕ, ◌≡◌, ◌⊎◌, [], Option, Some, None}
+use Rattle.std.specs.Prelude.{ℕ, ◌≡◌, ◌⊎◌, [], None}
 use Rattle.domain_laws.specs.Laws.{Values}
 use Rattle.memory_map.specs.Image.{Image, name_at}
 use Rattle.x86_syntax.specs.Decodes.{decoded}
 use Rattle.flow_log.specs.declared.edge.Label.{Label}
-use Rattle.flow_log.specs.Log.{Row}
 use Rattle.x86_machine.specs.Machine.{label_by}
 use Rattle.abstract_state.specs.State.{Known}
 use Rattle.abstract_state.specs.Expanding.{Expanded}
@@ -30,9 +29,3 @@ module _ {D : Type 0} (d : Values D) (image : Image) (stubs : StatedStubs) (k : 
     pub located : answer.at ≡ location
     pub expansion : answer.expansion ≡ post d image stubs k location s
     pub label : IsLabelled location s answer.expansion answer.label
-
-  -- of a row where there is one
-  abbrev pub IsPostOfRow : Option (Row (Known D)) → Option (Post D) → Type 0
-  IsPostOfRow None None = Unit {0}
-  IsPostOfRow (Some row) (Some answer) = IsPostOf row.location row.state answer
-  IsPostOfRow _ _ = ⊥

@@ -1,12 +1,12 @@
-ghost use Rattle.std.specs.Prelude.{ℕ, ◌≡◌, ◌<◌, ◌^◌, [], ◌∷◌, ◌++◌, Some, IfOk, OnOk, false, length, map, nat_eq, slice_get};
+ghost use Rattle.std.specs.Prelude.{ℕ, ◌≡◌, [], ◌∷◌, ◌++◌, Some, IfOk, OnOk, false, map, nat_eq};
 ghost use Rattle.std.specs.HashMap.{get};
 ghost use Rattle.domain_laws.specs.Made.{values_of};
 ghost use Rattle.flow_log.specs.Log.{first_log, row_after, with_notes, with_next_pair, with_next_pairs, with_row};
 ghost use Rattle.stub_file.specs.Stubs.{StatedStubs};
 ghost use Rattle.abstract_state.specs.State.{IsWellState, covers_state};
-ghost use Rattle.flow_worklist.specs.Analysis.{analysis_of, edge_by, image_log, widened_by};
+ghost use Rattle.flow_worklist.specs.Analysis.{analysis_of, edge_by, widened_by};
 ghost use Rattle.flow_worklist.specs.Exploring.{IsIndexed, IsIndexedBut, IsOf, log_in};
-ghost use Rattle.flow_worklist.specs.PostOf.{IsPostOf, IsPostOfRow};
+ghost use Rattle.flow_worklist.specs.PostOf.{IsPostOf};
 
 use crate::post::{Post, expanded};
 use crate::reading::Reading;
@@ -19,7 +19,6 @@ use flow_log::{Cause, Edge};
 use image_loader::Image;
 use std::alloc::Global;
 use std::collections::HashMap;
-use std::thread::Threads;
 use stub_file::Stubs;
 
 /// How far an exploration goes.
@@ -31,10 +30,10 @@ pub struct Limits {
     pub budget: u32,
 }
 
-// A log that grows, with what is kept of each location.
+/// A log that grows, with what is kept of each location.
 #[derive(Drop)]
-struct Exploration<D: Domain> {
-    rows: Vec<Row<D>>,
+pub struct Exploration<D: Domain> {
+    pub rows: Vec<Row<D>>,
     edges: Vec<Edge>,
     causes: Vec<(u32, Cause)>,
     writes: Vec<(u32, u32)>,
@@ -42,8 +41,8 @@ struct Exploration<D: Domain> {
 }
 
 impl<D: Domain> Exploration<D> {
-    // Row 0 alone.
-    fn start(alloc: Global, image: &Image, limits: Limits) -> Result<Exploration<D>, NoMemory>
+    /// Row 0 alone.
+    pub fn start(alloc: Global, image: &Image, limits: Limits) -> Result<Exploration<D>, NoMemory>
         ensures log { (stubs : StatedStubs) → IfOk result (λ e. log_in e ≡ first_log (analysis_of (values_of D.Domain.own D.eq) image.now stubs limits.k) limits.budget) }
         ensures indexed { IfOk result (IsIndexed (values_of D.Domain.own D.eq)) }
     {
@@ -63,25 +62,8 @@ impl<D: Domain> Exploration<D> {
         })
     }
 
-    // The expansion of the row of a number, where there is one.
-    fn expanded(
-        &self,
-        alloc: Global,
-        image: &Image,
-        stubs: &Stubs,
-        k: u32,
-        number: u32,
-    ) -> Result<Option<Post<D>>, NoMemory>
-        ensures { IfOk result (IsPostOfRow (values_of D.Domain.own D.eq) image.now stubs.now k (slice_get self.now.rows.items number)) }
-    {
-        match self.rows.get(number as usize) {
-            Some(row) => Ok(Some(self.expanded_row(alloc, image, stubs, k, row)?)),
-            None => Ok(None),
-        }
-    }
-
-    // The expansion of a row; what its location's bytes begin with is not read again.
-    fn expanded_row(
+    /// The expansion of a row; what its location's bytes begin with is not read again.
+    pub fn expanded_row(
         &self,
         alloc: Global,
         image: &Image,
@@ -242,8 +224,8 @@ impl<D: Domain> Exploration<D> {
         Ok(())
     }
 
-    // The expansion of the row of a number taken in.
-    fn take_in(
+    /// The expansion of the row of a number taken in.
+    pub fn take_in(
         &mut self,
         alloc: Global,
         image: &Image,
@@ -259,7 +241,8 @@ impl<D: Domain> Exploration<D> {
         self.follow(alloc, image, number, post, limits)
     }
 
-    fn finish(self) -> Log<D>
+    /// The log, grown.
+    pub fn finish(self) -> Log<D>
         ensures { result ≡ log_in self }
     {
         Log {
@@ -278,44 +261,4 @@ fn push_causes(out: &mut Vec<(u32, Cause)>, number: u32, causes: &[Cause]) -> Re
         out.push((number, *cause))?;
     }
     Ok(())
-}
-
-/// The log of an image with stubs over a domain, of which the first `budget` rows are expanded. It has fewer than 2^32 rows. Refuses want of memory
-/// alone.
-pub fn explore<R: Threads + Sync, D: Domain>(
-    rt: &R,
-    alloc: Global,
-    image: &Image,
-    stubs: &Stubs,
-    limits: Limits,
-) -> Result<Log<D>, NoMemory>
-    ensures log { IfOk result (λ log. log ≡ image_log (values_of D.Domain.own D.eq) image.now stubs.now limits.k limits.budget) }
-    ensures few { IfOk result (λ log. length log.rows < 2 ^ 32) }
-{
-    let _ = rt;
-    let exploration = explored(alloc, image, stubs, limits)?;
-    if exploration.rows.len() > u32::MAX as usize {
-        return Err(NoMemory);
-    }
-    Ok(exploration.finish())
-}
-
-// The whole log, as it has grown.
-fn explored<D: Domain>(
-    alloc: Global,
-    image: &Image,
-    stubs: &Stubs,
-    limits: Limits,
-) -> Result<Exploration<D>, NoMemory>
-    ensures { IfOk result (λ e. log_in e ≡ image_log (values_of D.Domain.own D.eq) image.now stubs.now limits.k limits.budget) }
-{
-    let mut exploration = Exploration::start(alloc, image, limits)?;
-    for n in 0..limits.budget {
-        let found = exploration.expanded(alloc, image, stubs, limits.k, n)?;
-        match found {
-            None => return Ok(exploration),
-            Some(post) => exploration.take_in(alloc, image, n, post, limits)?,
-        }
-    }
-    Ok(exploration)
 }

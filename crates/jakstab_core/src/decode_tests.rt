@@ -1,5 +1,5 @@
 use crate::tests::{file_with, sink};
-use crate::{Input, Status, jakstab};
+use crate::{Input, OpenGate, Status, jakstab};
 use outside_io::MemoryShelf;
 use std::alloc::{AllocError, Global};
 use std::test::Fail;
@@ -93,7 +93,9 @@ fn instructions_are_listed_up_to_the_first_fault(rt: HostRuntime) -> Result<(), 
         let mut out = sink(alloc, 4096, Vec::new(alloc))?;
         let mut note = sink(alloc, 4096, Vec::new(alloc))?;
         let words = decode_words(alloc, words)?;
-        let status = jakstab(&rt, alloc, &words, &mut shelf, &mut out, &mut note);
+        let status = jakstab(
+            &rt, alloc, &words, &mut shelf, &mut out, &mut note, &OpenGate,
+        );
         assert_eq!(rt; status, Status::Done, "{lines}");
         let text = format!(in alloc; "jakstab-decode 1\n{lines}")?;
         assert_eq!(rt; out.written(), text.as_bytes(), "{lines}");
@@ -120,7 +122,9 @@ fn each_fault_of_the_outside_is_answered_by_decode(rt: HostRuntime) -> Result<()
         shelf.put("a", file_with(alloc, b"\xEB\xFE")?)?;
         let mut out = sink(alloc, 16, vec![in alloc; fail_write]?)?;
         let mut note = sink(alloc, 4096, vec![in alloc; 2]?)?;
-        let status = jakstab(&rt, alloc, &words, &mut shelf, &mut out, &mut note);
+        let status = jakstab(
+            &rt, alloc, &words, &mut shelf, &mut out, &mut note, &OpenGate,
+        );
         assert_eq!(rt; status, want, "write {fail_write}");
         assert_eq!(rt; out.written().len(), held, "write {fail_write}");
         assert!(rt;

@@ -1,6 +1,6 @@
 use crate::sample_files::GREET;
 use crate::tests::{sink, words_of};
-use crate::{Status, jakstab};
+use crate::{OpenGate, Status, jakstab};
 use demo_images::{Import, form_d, form_p};
 use outside_io::MemoryShelf;
 use std::alloc::Global;
@@ -101,7 +101,9 @@ fn check_end<R: Abort + Threads + Sync>(
     let mut out = sink(alloc, 4096, Vec::new(alloc))?;
     let mut note = sink(alloc, 4096, Vec::new(alloc))?;
     let words = words_of(alloc, words)?;
-    let status = jakstab(rt, alloc, &words, &mut shelf, &mut out, &mut note);
+    let status = jakstab(
+        rt, alloc, &words, &mut shelf, &mut out, &mut note, &OpenGate,
+    );
     assert_eq!(rt; status, Status::Done, "{end}");
     assert!(rt; out.written().ends_with(end.as_bytes()), "{end}");
     Ok(())

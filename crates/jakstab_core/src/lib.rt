@@ -38,9 +38,12 @@ mod status;
 mod summary;
 #[cfg(test)]
 mod tests;
+#[cfg(test)]
+mod thread_tests;
 mod top;
 mod work;
 
+pub use flow_worklist::{Gate, OpenGate};
 pub use laws::replays_find_edges;
 pub use status::{Input, Status};
 pub use top::jakstab;

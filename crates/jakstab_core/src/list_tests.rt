@@ -1,5 +1,5 @@
 use crate::tests::{file_with, sink, words_of};
-use crate::{Input, Status, jakstab};
+use crate::{Input, OpenGate, Status, jakstab};
 use demo_images::{Import, form_d, form_e, form_p};
 use outside_io::MemoryShelf;
 use std::test::Fail;
@@ -115,7 +115,9 @@ fn images_are_listed_with_their_imports(rt: HostRuntime) -> Result<(), Fail> {
         let mut out = sink(alloc, 4096, Vec::new(alloc))?;
         let mut note = sink(alloc, 4096, Vec::new(alloc))?;
         let words = words_of(alloc, words)?;
-        let status = jakstab(&rt, alloc, &words, &mut shelf, &mut out, &mut note);
+        let status = jakstab(
+            &rt, alloc, &words, &mut shelf, &mut out, &mut note, &OpenGate,
+        );
         assert_eq!(rt; status, Status::Done, "{want}");
         assert_eq!(rt; out.written(), want.as_bytes(), "{want}");
         assert!(rt; note.written().is_empty(), "{want}");
@@ -145,7 +147,9 @@ fn stub_files_are_read_after_the_image(rt: HostRuntime) -> Result<(), Fail> {
         shelf.put("s", Vec::from_slice(alloc, text.as_bytes())?)?;
         let mut out = sink(alloc, 4096, Vec::new(alloc))?;
         let mut note = sink(alloc, 4096, Vec::new(alloc))?;
-        let status = jakstab(&rt, alloc, &words, &mut shelf, &mut out, &mut note);
+        let status = jakstab(
+            &rt, alloc, &words, &mut shelf, &mut out, &mut note, &OpenGate,
+        );
         assert_eq!(rt; status, Status::StubsRefused(n), "{text}");
         assert!(rt; out.written().is_empty(), "{text}");
         let line = format!(in alloc; "jakstab: stubs refused {n}\n")?;
@@ -160,14 +164,18 @@ fn stub_files_are_read_after_the_image(rt: HostRuntime) -> Result<(), Fail> {
         shelf.put("i", Vec::from_slice(alloc, image)?)?;
         let mut out = sink(alloc, 4096, Vec::new(alloc))?;
         let mut note = sink(alloc, 4096, Vec::new(alloc))?;
-        let status = jakstab(&rt, alloc, &words, &mut shelf, &mut out, &mut note);
+        let status = jakstab(
+            &rt, alloc, &words, &mut shelf, &mut out, &mut note, &OpenGate,
+        );
         assert_eq!(rt; status, want);
     }
     let mut shelf = MemoryShelf::new(alloc, Vec::new(alloc));
     shelf.put("i", file_with(alloc, b"\xEB\xFE")?)?;
     let mut out = sink(alloc, 4096, Vec::new(alloc))?;
     let mut note = sink(alloc, 4096, Vec::new(alloc))?;
-    let status = jakstab(&rt, alloc, &words, &mut shelf, &mut out, &mut note);
+    let status = jakstab(
+        &rt, alloc, &words, &mut shelf, &mut out, &mut note, &OpenGate,
+    );
     assert_eq!(rt; status, Status::ReadFault(Input::Stubs));
     assert_eq!(rt; note.written(), b"jakstab: cannot read stubs\n".as_slice());
     Ok(())

@@ -1,5 +1,5 @@
 use crate::tests::{file_with, sink, words_of};
-use crate::{Status, jakstab};
+use crate::{OpenGate, Status, jakstab};
 use outside_io::MemoryShelf;
 use std::alloc::{AllocError, Global};
 use std::process::Abort;
@@ -31,7 +31,9 @@ fn check_end<R: Abort + Threads + Sync>(
     shelf.put("a", file_with(alloc, code)?)?;
     let mut out = sink(alloc, 4096, Vec::new(alloc))?;
     let mut note = sink(alloc, 4096, Vec::new(alloc))?;
-    let status = jakstab(rt, alloc, &words, &mut shelf, &mut out, &mut note);
+    let status = jakstab(
+        rt, alloc, &words, &mut shelf, &mut out, &mut note, &OpenGate,
+    );
     assert_eq!(rt; status, Status::Done, "{end}");
     assert!(rt; out.written().ends_with(end.as_bytes()), "{end}");
     Ok(())

@@ -7,7 +7,7 @@ use bit_words::NoMemory;
 use bounded_values::Bounded;
 use command_words::{DomainName, Options, TextVersion};
 use domain_laws::{Domain, FlatNumbers};
-use flow_worklist::{Limits, automaton_of, explore};
+use flow_worklist::{Gate, Limits, PIECE, ROUND, automaton_of, explore_in};
 use image_loader::Image;
 use interval_values::Interval;
 use std::alloc::Global;
@@ -15,26 +15,28 @@ use std::thread::Threads;
 use stub_file::Stubs;
 
 // The automaton of an image's log over a domain, with stubs.
-fn log_automaton<R: Threads + Sync, D: Domain>(
+fn log_automaton<R: Threads + Sync, D: Domain, G: Gate>(
     rt: &R,
     alloc: Global,
     image: &Image,
     stubs: &Stubs,
     limits: Limits,
+    gate: &G,
 ) -> Result<Automaton, NoMemory>
     ensures { IfOk result (λ a. a ≡ log_automaton (values_of D.Domain.own D.eq) image.now stubs.now limits.k limits.budget) }
 {
-    let log = explore::<R, D>(rt, alloc, image, stubs, limits)?;
+    let log = explore_in::<R, D, G>(rt, alloc, image, stubs, limits, ROUND, PIECE, gate)?;
     automaton_of(alloc, image, &log)
 }
 
 // The automaton that is recovered of an image with stubs.
-fn recovered<R: Threads + Sync>(
+fn recovered<R: Threads + Sync, G: Gate>(
     rt: &R,
     alloc: Global,
     image: &Image,
     stubs: &Stubs,
     options: Options,
+    gate: &G,
 ) -> Result<Automaton, NoMemory>
     ensures { IfOk result (λ a. a ≡ recovered image.now stubs.now options) }
 {
@@ -43,9 +45,15 @@ fn recovered<R: Threads + Sync>(
         budget: options.budget,
     };
     match options.domain {
-        DomainName::Flat => log_automaton::<R, FlatNumbers>(rt, alloc, image, stubs, limits),
-        DomainName::Bounded => log_automaton::<R, Bounded>(rt, alloc, image, stubs, limits),
-        DomainName::Interval => log_automaton::<R, Interval>(rt, alloc, image, stubs, limits),
+        DomainName::Flat => log_automaton::<R, FlatNumbers, G>(
+            rt, alloc, image, stubs, limits, gate,
+        ),
+        DomainName::Bounded => log_automaton::<R, Bounded, G>(
+            rt, alloc, image, stubs, limits, gate,
+        ),
+        DomainName::Interval => log_automaton::<R, Interval, G>(
+            rt, alloc, image, stubs, limits, gate,
+        ),
     }
 }
 
@@ -60,16 +68,17 @@ fn in_version(automaton: Automaton, version: TextVersion) -> Automaton
 }
 
 /// The text of the automaton of an image with stubs.
-pub fn recovered_text<R: Threads + Sync>(
+pub fn recovered_text<R: Threads + Sync, G: Gate>(
     rt: &R,
     alloc: Global,
     image: &Image,
     stubs: &Stubs,
     options: Options,
     version: TextVersion,
+    gate: &G,
 ) -> Result<Vec<u8>, NoMemory>
     ensures { IfOk result (λ text. text.items ≡ recovered_text image.now stubs.now options version) }
 {
-    let automaton = recovered(rt, alloc, image, stubs, options)?;
+    let automaton = recovered(rt, alloc, image, stubs, options, gate)?;
     print_automaton(alloc, &in_version(automaton, version))
 }

@@ -1,5 +1,5 @@
 use crate::tests::{OVERLAP, SELF_JUMP, check_text, file_with, sink, words_of};
-use crate::{Input, Status, jakstab};
+use crate::{Input, OpenGate, Status, jakstab};
 use outside_io::MemoryShelf;
 use std::alloc::{AllocError, Global};
 use std::process::Abort;
@@ -116,7 +116,9 @@ fn check<R: Abort + Threads + Sync>(
     let mut out = sink(alloc, 4096, Vec::new(alloc))?;
     let mut note = sink(alloc, 4096, Vec::new(alloc))?;
     let words = words_of(alloc, words)?;
-    let status = jakstab(rt, alloc, &words, &mut shelf, &mut out, &mut note);
+    let status = jakstab(
+        rt, alloc, &words, &mut shelf, &mut out, &mut note, &OpenGate,
+    );
     assert_eq!(rt; status, want, "{text}");
     assert_eq!(rt; out.written(), text.as_bytes(), "{text}");
     assert_eq!(rt; note.written(), want.line().as_bytes(), "{text}");
@@ -332,7 +334,9 @@ fn inputs_are_read_in_the_order_of_the_words(rt: HostRuntime) -> Result<(), Fail
         let mut shelf = shelf_of(alloc, files, vec![in alloc; fail_read]?)?;
         let mut out = sink(alloc, 4096, vec![in alloc; fail_write]?)?;
         let mut note = sink(alloc, 4096, Vec::new(alloc))?;
-        let status = jakstab(&rt, alloc, &words, &mut shelf, &mut out, &mut note);
+        let status = jakstab(
+            &rt, alloc, &words, &mut shelf, &mut out, &mut note, &OpenGate,
+        );
         assert_eq!(rt; status, want, "read {fail_read}, write {fail_write}");
         assert_eq!(rt; note.written(), want.line().as_bytes());
     }

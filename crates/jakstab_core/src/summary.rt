@@ -6,7 +6,7 @@ use bit_words::NoMemory;
 use bounded_values::Bounded;
 use command_words::{DomainName, Options};
 use domain_laws::{Domain, FlatNumbers};
-use flow_worklist::{Limits, automaton_of, explore};
+use flow_worklist::{Gate, Limits, PIECE, ROUND, automaton_of, explore_in};
 use image_loader::Image;
 use interval_values::Interval;
 use std::alloc::Global;
@@ -24,16 +24,17 @@ struct Counts {
 }
 
 // The counts of the log of an image with stubs over a domain.
-fn log_counts<R: Threads + Sync, D: Domain>(
+fn log_counts<R: Threads + Sync, D: Domain, G: Gate>(
     rt: &R,
     alloc: Global,
     image: &Image,
     stubs: &Stubs,
     limits: Limits,
+    gate: &G,
 ) -> Result<Counts, NoMemory>
     ensures { IfOk result (λ counts. counts ≡ log_counts (values_of D.Domain.own D.eq) image.now stubs.now limits.k limits.budget) }
 {
-    let log = explore::<R, D>(rt, alloc, image, stubs, limits)?;
+    let log = explore_in::<R, D, G>(rt, alloc, image, stubs, limits, ROUND, PIECE, gate)?;
     let automaton = automaton_of(alloc, image, &log)?;
     Ok(Counts {
         rows: log.rows().len(),
@@ -43,12 +44,13 @@ fn log_counts<R: Threads + Sync, D: Domain>(
     })
 }
 
-fn counts_over<R: Threads + Sync>(
+fn counts_over<R: Threads + Sync, G: Gate>(
     rt: &R,
     alloc: Global,
     image: &Image,
     stubs: &Stubs,
     options: Options,
+    gate: &G,
 ) -> Result<Counts, NoMemory>
     ensures { IfOk result (λ counts. counts ≡ counts_over options.domain image.now stubs.now options.k options.budget) }
 {
@@ -57,9 +59,9 @@ fn counts_over<R: Threads + Sync>(
         budget: options.budget,
     };
     match options.domain {
-        DomainName::Flat => log_counts::<R, FlatNumbers>(rt, alloc, image, stubs, limits),
-        DomainName::Bounded => log_counts::<R, Bounded>(rt, alloc, image, stubs, limits),
-        DomainName::Interval => log_counts::<R, Interval>(rt, alloc, image, stubs, limits),
+        DomainName::Flat => log_counts::<R, FlatNumbers, G>(rt, alloc, image, stubs, limits, gate),
+        DomainName::Bounded => log_counts::<R, Bounded, G>(rt, alloc, image, stubs, limits, gate),
+        DomainName::Interval => log_counts::<R, Interval, G>(rt, alloc, image, stubs, limits, gate),
     }
 }
 
@@ -90,16 +92,17 @@ fn summary_line(alloc: Global, blocks: u32, counts: Counts) -> Result<Vec<u8>, N
 }
 
 /// The line that sums up the log of the demo image of so many blocks.
-pub fn summary<R: Threads + Sync>(
+pub fn summary<R: Threads + Sync, G: Gate>(
     rt: &R,
     alloc: Global,
     image: &Image,
     stubs: &Stubs,
     blocks: u32,
     options: Options,
+    gate: &G,
 ) -> Result<Vec<u8>, NoMemory>
     ensures { IfOk result (λ line. line.items ≡ summary_of image.now stubs.now blocks options) }
 {
-    let counts = counts_over(rt, alloc, image, stubs, options)?;
+    let counts = counts_over(rt, alloc, image, stubs, options, gate)?;
     summary_line(alloc, blocks, counts)
 }

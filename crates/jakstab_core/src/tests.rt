@@ -1,6 +1,6 @@
 ghost use Rattle.std.specs.Prelude.{◌<◌};
 
-use crate::{Input, Status, jakstab};
+use crate::{Input, OpenGate, Status, jakstab};
 use bit_words::NoMemory;
 use demo_images::form_e;
 use outside_io::{MemoryShelf, MemorySink, SureShelf, SureSink};
@@ -68,7 +68,9 @@ pub fn check_text<R: Abort + Threads + Sync>(
     let mut out = sink(alloc, 4096, Vec::new(alloc))?;
     let mut note = sink(alloc, 4096, Vec::new(alloc))?;
     let words = words_of(alloc, words)?;
-    let status = jakstab(rt, alloc, &words, &mut shelf, &mut out, &mut note);
+    let status = jakstab(
+        rt, alloc, &words, &mut shelf, &mut out, &mut note, &OpenGate,
+    );
     assert_eq!(rt; status, Status::Done, "{want}");
     assert_eq!(rt; out.written(), want.as_bytes(), "{want}");
     assert!(rt; note.written().is_empty(), "{want}");
@@ -240,7 +242,9 @@ fn images_are_recovered_to_their_texts(rt: HostRuntime) -> Result<(), Fail> {
         shelf.put("a", file_with(alloc, code)?)?;
         let mut out = sink(alloc, 4096, Vec::new(alloc))?;
         let mut note = sink(alloc, 4096, Vec::new(alloc))?;
-        let status = jakstab(&rt, alloc, &words, &mut shelf, &mut out, &mut note);
+        let status = jakstab(
+            &rt, alloc, &words, &mut shelf, &mut out, &mut note, &OpenGate,
+        );
         assert_eq!(rt; status, Status::Done, "{want}");
         assert_eq!(rt; out.written(), want.as_bytes(), "{want}");
         assert!(rt; note.written().is_empty(), "{want}");
@@ -300,7 +304,9 @@ fn other_files_and_words_are_refused_and_write_nothing(rt: HostRuntime) -> Resul
         let mut out = sink(alloc, 4096, Vec::new(alloc))?;
         let mut note = sink(alloc, 4096, Vec::new(alloc))?;
         let words = words_of(alloc, words)?;
-        let status = jakstab(&rt, alloc, &words, &mut shelf, &mut out, &mut note);
+        let status = jakstab(
+            &rt, alloc, &words, &mut shelf, &mut out, &mut note, &OpenGate,
+        );
         assert_eq!(rt; status, want);
         assert!(rt; out.written().is_empty(), "{line}");
         assert_eq!(rt; note.written(), line.as_bytes());
@@ -329,7 +335,9 @@ fn each_fault_of_the_outside_is_answered(rt: HostRuntime) -> Result<(), Fail> {
         shelf.put("a", file_with(alloc, b"\xEB\xFE")?)?;
         let mut out = sink(alloc, 16, vec![in alloc; fail_write]?)?;
         let mut note = sink(alloc, 4096, vec![in alloc; 2]?)?;
-        let status = jakstab(&rt, alloc, &words, &mut shelf, &mut out, &mut note);
+        let status = jakstab(
+            &rt, alloc, &words, &mut shelf, &mut out, &mut note, &OpenGate,
+        );
         assert_eq!(rt; status, want, "write {fail_write}");
         assert_eq!(rt; out.written().len(), held, "write {fail_write}");
         assert!(rt;
@@ -346,7 +354,15 @@ fn what_never_fails_is_read_and_written(rt: HostRuntime) -> Result<(), Fail> {
     let words = words_of(alloc, &["recover", "a"])?;
     let mut shelf = SureShelf::new(alloc);
     shelf.put("a", file_with(alloc, b"\xEB\xFE")?)?;
-    let status = jakstab(&rt, alloc, &words, &mut shelf, &mut SureSink, &mut SureSink);
+    let status = jakstab(
+        &rt,
+        alloc,
+        &words,
+        &mut shelf,
+        &mut SureSink,
+        &mut SureSink,
+        &OpenGate,
+    );
     assert_eq!(rt; status, Status::Done);
     assert_eq!(rt; status.number(), 0);
     Ok(())

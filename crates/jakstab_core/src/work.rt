@@ -12,6 +12,7 @@ use automaton_text::Automaton;
 use bit_words::NoMemory;
 use command_words::{Options, TextVersion};
 use decode_listing::print_listing;
+use flow_worklist::Gate;
 use image_listing::print_list;
 use image_loader::{Image, Loaded};
 use run_replayer::RunRecord;
@@ -60,29 +61,31 @@ pub struct Output {
 }
 
 /// What work on an image writes, which is bound to its stubs first.
-pub fn output_of_loaded<R: Threads + Sync>(
+pub fn output_of_loaded<R: Threads + Sync, G: Gate>(
     rt: &R,
     alloc: Global,
     loaded: Loaded,
     stubs: &Stubs,
     work: Work,
+    gate: &G,
 ) -> Result<Output, Status>
     requires { IsFew work }
     ensures { MatchResult result (λ o. OfImage (laid_out_by loaded) stubs.now (λ image. IsOutput work stubs.now image o.text.items o.is_no)) (OrMemory (λ status. OfImage (laid_out_by loaded) stubs.now (λ image. IsStartRefused work image status))) }
 {
     match loaded.bind(alloc, stubs) {
-        Ok(image) => output_of_image(rt, alloc, work, stubs, &image),
+        Ok(image) => output_of_image(rt, alloc, work, stubs, &image, gate),
         Err(_) => Err(Status::Memory),
     }
 }
 
 // What work on an image writes.
-fn output_of_image<R: Threads + Sync>(
+fn output_of_image<R: Threads + Sync, G: Gate>(
     rt: &R,
     alloc: Global,
     work: Work,
     stubs: &Stubs,
     image: &Image,
+    gate: &G,
 ) -> Result<Output, Status>
     requires { IsFew work }
     ensures text { MatchResult result (λ o. IsOutput work stubs.now image.now o.text.items o.is_no) (OrMemory (IsStartRefused work image.now)) }
@@ -91,7 +94,7 @@ fn output_of_image<R: Threads + Sync>(
     let _ = image.entry();
     match work {
         Work::Recover { options, version } => {
-            plain(recovered_text(rt, alloc, image, stubs, options, version))
+            plain(recovered_text(rt, alloc, image, stubs, options, version, gate))
         }
         Work::List => plain(print_list(alloc, image, stubs)),
         Work::Decode { address, count } => plain(print_listing(alloc, image, address, count)),
@@ -100,7 +103,7 @@ fn output_of_image<R: Threads + Sync>(
             verdict_output(alloc, image, stubs, &automaton, &record)
         }
         Work::Summarize { blocks, options } => {
-            plain(summary(rt, alloc, image, stubs, blocks, options))
+            plain(summary(rt, alloc, image, stubs, blocks, options, gate))
         }
     }
 }

@@ -3,7 +3,7 @@
 // Its contract: it ends with the number of the status that `jakstab` gives.
 #![tactic(auto)]
 
-use jakstab_core::jakstab;
+use jakstab_core::{OpenGate, jakstab};
 use outside_io::{FileShelf, StandardStream, StreamSink};
 use std::process::ExitCode;
 use std::{env, io};
@@ -14,7 +14,9 @@ fn main(rt: HostRuntime) -> ExitCode {
     let mut shelf = FileShelf::new(&rt);
     let mut out = StreamSink::new(StandardStream::Output(rt.stdout()));
     let mut note = StreamSink::new(StandardStream::Error(rt.stderr()));
-    let status = jakstab(&rt, alloc, &words, &mut shelf, &mut out, &mut note);
+    let status = jakstab(
+        &rt, alloc, &words, &mut shelf, &mut out, &mut note, &OpenGate,
+    );
     ExitCode::from(status.number())
 }
 
