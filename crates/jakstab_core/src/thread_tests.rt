@@ -20,6 +20,7 @@ use stub_file::Stubs;
 const TURNS: u32 = 100_000_000;
 
 // A row that waits for another one.
+#[derive(Drop)]
 struct Meeting {
     row: u32,
     is_here: AtomicBool,
@@ -51,6 +52,7 @@ impl Meeting {
 }
 
 // A gate at which two rows wait for each other.
+#[derive(Drop)]
 struct MeetGate {
     first: Meeting,
     second: Meeting,
