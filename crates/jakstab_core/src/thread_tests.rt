@@ -1,7 +1,7 @@
 ghost use Rattle.std.specs.Prelude.{◌<◌};
 
-use crate::inputs::{laid_out, stated_stubs};
 use crate::calls::{file_with, sink, words_of};
+use crate::inputs::{laid_out, stated_stubs};
 use crate::{Gate, Status, jakstab};
 use bounded_values::Bounded;
 use demo_images::demo;
