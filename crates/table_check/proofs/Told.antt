@@ -1,7 +1,7 @@
 -- What a table's text tells is a table of the image, and the text is that table's.
-use Rattle.std.proofs.Common.{◌≡◌, ℕ, suc, ◌+◌, ◌-◌, ◌<◌, ◌≤◌, ◌^◌, ◌==◌, Bool, true, false, List, [], ◌∷◌, ◌++◌, length, map, Option, None, Some, Ok, Err, refl, sym, ◌∙◌, ap, subst, arith, append_assoc, append-nil, decimal}
-use Rattle.std.specs.Prelude.{All, Result, codes, flat_map, nat_le, nat_lt, ◌&&◌, slice_get, if◌then◌else◌}
-use Rattle.std.specs.Option.{option_map_or}
+use Rattle.std.proofs.Common.{◌≡◌, ℕ, suc, ◌+◌, ◌-◌, ◌<◌, ◌≤◌, ◌^◌, ◌==◌, Bool, true, false, List, [], ◌∷◌, ◌++◌, length, map, Option, None, Some, Ok, Err, refl, sym, ◌∙◌, ap, subst, arith, append_assoc, append-nil, decimal, pos}
+use Rattle.std.specs.Prelude.{All, Result, codes, flat_map, nat_le, nat_lt, ◌&&◌, option_and_then, slice_get, if◌then◌else◌}
+use Rattle.std.specs.Option.{ForSome, option_map_or}
 use Rattle.std.specs.List.{join_with_byte, list_all}
 use Rattle.std.specs.Str.{bytes_eq}
 use Rattle.std.proofs.lemmas.Bool.Decides.{nat_tests}
@@ -9,8 +9,10 @@ use Rattle.std.proofs.lemmas.Grind.{flat_map-append}
 use Rattle.std.proofs.lemmas.List.Folds.{list_all-append}
 use Rattle.std.proofs.lemmas.List.Splits.{join_with_byte-slice_split}
 use Rattle.std.proofs.lemmas.List.{length-append}
-use Rattle.std.proofs.lemmas.List.Elements.{All-nil, All-push}
+use Rattle.std.proofs.lemmas.List.Elements.{All-nil, All-push, All-weaker}
 use Rattle.memory_map.specs.Image.{Image}
+use Rattle.memory_map.specs.declared.registers.Regs.{Regs}
+use Rattle.address_regions.specs.declared.region.Region.TheVariants.{Stack}
 use Rattle.text_fields.specs.Decimal.{decimal_number}
 use Rattle.text_fields.specs.Fields.{no_more}
 use Rattle.text_fields.specs.Hex.{hex8}
@@ -23,18 +25,24 @@ use Rattle.text_fields.proofs.FieldTexts.{has_field, is_done}
 use Rattle.text_fields.proofs.Splitting.{fields_back, spaced}
 use Rattle.bounded_values.specs.declared.value.Bounded.{Bounded}
 use Rattle.bounded_values.specs.BoundedLaws.{bounded}
+use Rattle.partitioned_memory.specs.declared.area.Area.TheVariants.{In}
 use Rattle.partitioned_memory.specs.declared.fact.Fact.{Fact}
 use Rattle.partitioned_memory.specs.declared.fact.Dirty.{Dirty}
 use Rattle.partitioned_memory.specs.declared.fact.Counted.{Counted}
+use Rattle.partitioned_memory.specs.Areas.{interval_at}
 use Rattle.partitioned_memory.specs.Building.{ascend, is_block, is_sound_dirty, is_sound_fact}
 use Rattle.partitioned_memory.specs.Held.{count_before, dirty_before, fact_before}
+use Rattle.partitioned_memory.proofs.BuiltParts.{inside-of}
 use Rattle.abstract_state.specs.declared.truth.Truth.{Truth}
+use Rattle.abstract_state.specs.declared.flags.Truths.{Truths}
 use Rattle.abstract_state.specs.declared.note.Note.{Note}
 use Rattle.abstract_state.specs.declared.note.Note.TheVariants.{Register, Word}
 use Rattle.abstract_state.specs.declared.plain.StateData.{StateData}
-use Rattle.abstract_state.specs.State.{Known}
-use Rattle.abstract_state.specs.Building.{HasImageBytes, built, is_dirty_of, is_fact_of, is_well_note, plain_of}
-use Rattle.abstract_state.proofs.Building.{built-plain}
+use Rattle.abstract_state.specs.Notes.{IsWellNote, compared_with}
+use Rattle.abstract_state.specs.State.{IsWellState, Known}
+use Rattle.abstract_state.specs.Building.{HasImageBytes, built, is_dirty_of, is_fact_of, is_note, is_state, is_well_note, parts_of, plain_of, registers_of, truths_of}
+use Rattle.abstract_state.proofs.Building.{built-plain, built-well}
+use Rattle.abstract_state.proofs.Keeping.{no-note}
 use Rattle.table_check.specs.declared.table.Table.{Table}
 use Rattle.table_check.specs.declared.stage.Stage.{Stage}
 use Rattle.table_check.specs.declared.stage.Stage.TheVariants as stages
@@ -42,7 +50,7 @@ use Rattle.table_check.specs.Fields.{address_fields, block_fields, dirty_fields,
 use Rattle.table_check.specs.TextLaws.{IsStateOf, IsTableOf, TextsTellTables, are_made, is_above, is_made}
 use Rattle.table_check.specs.Reading.{Reading, block_step, closed, closed_by, count_fields, count_of, demand, dirty_step, end_step, fact_step, flags_step, follows_last, header_step, is_dirty_above, is_fact_above, is_over, k_step, mark_or_next_step, after_state, mark_step, next_step, no_state, note_step, nothing, or_fault, part_of, regs_step, row_step, state_step, step_after, table_grammar, table_read, table_step, told}
 use Rattle.table_check.specs.Text.{area_text, block_line, count_text, dirty_line, end_line, fact_line, flags_line, header_text, k_line, note_line, offset_text, open_line, region_text, regs_line, row_line, row_text, state_text, table_text, truth_code, value_text}
-use Rattle.table_check.proofs.FieldsTold.{address_told, block_list, block_told, dirty_list, dirty_told, fact_list, fact_made, fact_told, flags_told, k_told, mapped, note_list, note_told, regs_told, same_word}
+use Rattle.table_check.proofs.FieldsTold.{address_told, block_list, block_told, dirty_list, dirty_told, fact_list, fact_made, fact_told, flags_told, k_told, mapped, note_list, note_small, note_told, regs_told, same_word}
 
 -- ---- what is behind a test or something found
 
@@ -109,11 +117,15 @@ pub record KeepsAt (stage : Stage) (r : Reading) : Type 0 where
   pub marked : ascend is_above r.marked ≡ true
   pub rows : All (λ row. IsStateOf r.image row.1) r.rows
   pub made : are_made r.state ≡ true
+  pub noted : ForSome r.state.note IsWellNote
 
 pub record Adds (stage : Stage) (r t : Reading) (line : List ℕ) : Type 0 where
   pub kept : KeepsAt t.stage t
   pub text : said_at t.stage t ≡ said_at stage r ++ (line ++ newline)
   pub image : t.image ≡ r.image
+
+unnoted : {note : Option Note} → note ≡ None → ForSome note IsWellNote
+unnoted is = subst (λ o. ForSome o IsWellNote) (sym is) no-note
 
 flat_map-last : {X : Type 0} (f : X → List ℕ) (xs : List X) (x : X) → flat_map f (xs ++ x ∷ []) ≡ flat_map f xs ++ f x
 flat_map-last f xs x = flat_map-append f xs (x ∷ []) ∙ ap (λ l. flat_map f xs ++ l) (append-nil (f x))
@@ -181,7 +193,7 @@ header_by r t line kept h =
     let u : Reading = record r { stage = stages.Header } in
     let i : (bytes_eq line header_text ≡ true) × (Ok u ≡ Ok t) = if_ok (bytes_eq line header_text) HEADER (Ok u) t h in
     subst (λ (x : Reading). Adds stages.Start r x line) (same_ok u t i.1) (record {
-      kept = record { begun = kept.begun; k = tt; marked = kept.marked; rows = kept.rows; made = kept.made };
+      kept = record { begun = kept.begun; k = tt; marked = kept.marked; rows = kept.rows; made = kept.made; noted = kept.noted };
       text = sym (ap (λ l. l ++ newline) (same_word line header_text i.0));
       image = refl;
     })
@@ -203,7 +215,7 @@ k_by r t line (word ∷ fs) kept parts h =
     let whole : line ++ newline ≡ k_line f.0 = ap (λ l. l ++ newline) (worded line word (codes "k") fs (decimal f.0 ∷ []) parts w.0 told_k.0) ∙ k_text f.0 in
     let u : Reading = record r { stage = stages.Marks; k = f.0 } in
     subst (λ (x : Reading). Adds stages.Header r x line) (same_ok u t f.2) (record {
-      kept = record { begun = (kept.begun.1, kept.begun.2); k = told_k.1; marked = kept.marked; rows = kept.rows; made = kept.made };
+      kept = record { begun = (kept.begun.1, kept.begun.2); k = told_k.1; marked = kept.marked; rows = kept.rows; made = kept.made; noted = kept.noted };
       text = k_added f.0 r.marked r.rows (line ++ newline) kept.begun.0 kept.begun.1 whole;
       image = refl;
     })
@@ -241,7 +253,7 @@ mark_by r t line at kept here whole h =
     let u : Reading = record r { marked = r.marked ++ at ∷ [] } in
     let i : (follows_last nat_lt r.marked at ≡ true) × (Ok u ≡ Ok t) = if_ok (follows_last nat_lt r.marked at) ORDER (Ok u) t h in
     let marks : ascend is_above (r.marked ++ at ∷ []) ≡ true = ascend_more is_above r.marked at kept.marked i.0 in
-    let own : KeepsAt stages.Marks u = record { begun = kept.begun; k = kept.k; marked = marks; rows = kept.rows; made = kept.made } in
+    let own : KeepsAt stages.Marks u = record { begun = kept.begun; k = kept.k; marked = marks; rows = kept.rows; made = kept.made; noted = kept.noted } in
     let P : Stage → Type 0 = λ s. KeepsAt s u in
     let said_u : said_at r.stage u ≡ front u = ap (λ s. said_at s u) here in
     subst (λ (x : Reading). Adds stages.Marks r x line) (same_ok u t i.1) (record {
@@ -269,10 +281,13 @@ row_by stage r u t line word fs w parts is h =
     let whole : line ++ newline ≡ row_line f.0 = ap (λ l. l ++ newline) (worded line word (codes "row") fs (hex8 f.0 ∷ []) parts is (address_told fs f.0 f.1)) ∙ row_head f.0 in
     let v : Reading = record u { stage = stages.Row; at = f.0 } in
     subst (λ (x : Reading). Adds stage r x line) (same_ok v t f.2) (record {
-      kept = record { begun = w.clear; k = w.k; marked = w.marked; rows = w.rows; made = w.made };
+      kept = record { begun = w.clear; k = w.k; marked = w.marked; rows = w.rows; made = w.made; noted = unnoted w.clear.0 };
       text = ap (λ l. l ++ row_line f.0) w.text ∙ ap (λ l. said_at stage r ++ l) (sym whole);
       image = w.image;
     })
+
+below : (a b : ℕ) → nat_lt a b ≡ true → a < b
+below a b e = grind (arith, nat_tests)
 
 equal : (a b : ℕ) → (a == b) ≡ true → a ≡ b
 equal a b e = grind (arith, nat_tests)
@@ -300,7 +315,7 @@ end_by stage r u t line word fs w few parts is h =
     let counted : fs ≡ decimal (length u.rows) ∷ [] = count_told u fs few (f.1 ∙ ap Some i.0) in
     let whole : line ++ newline ≡ end_line (length u.rows) = ap (λ l. l ++ newline) (worded line word (codes "end") fs (decimal (length u.rows) ∷ []) parts is counted) ∙ end_text (length u.rows) in
     subst (λ (x : Reading). Adds stage r x line) (same_ok v t i.1) (record {
-      kept = record { begun = tt; k = w.k; marked = w.marked; rows = w.rows; made = w.made };
+      kept = record { begun = tt; k = w.k; marked = w.marked; rows = w.rows; made = w.made; noted = unnoted w.clear.0 };
       text = ap (λ l. l ++ end_line (length u.rows)) w.text ∙ ap (λ l. said_at stage r ++ l) (sym whole);
       image = w.image;
     })
@@ -333,6 +348,7 @@ regs_by r t line (word ∷ fs) kept parts h =
         marked = kept.marked;
         rows = kept.rows;
         made = both_true (list_all is_made f.0) (list_all (λ (x : Fact Bounded). is_made x.value) r.state.facts) values.1 others.1;
+        noted = kept.noted;
       };
       text = ap (λ l. (front r ++ row_line r.at) ++ l) (sym whole);
       image = refl;
@@ -358,7 +374,7 @@ flags_by r t line (word ∷ fs) kept parts h =
     let u : Reading = record r { stage = stages.Flags; state = record (r.state) { flags = f.0 } } in
     let s : StateData Bounded = r.state in
     subst (λ (x : Reading). Adds stages.Regs r x line) (same_ok u t f.2) (record {
-      kept = record { begun = kept.begun; k = kept.k; marked = kept.marked; rows = kept.rows; made = kept.made };
+      kept = record { begun = kept.begun; k = kept.k; marked = kept.marked; rows = kept.rows; made = kept.made; noted = kept.noted };
       text = flags_added (front r ++ row_line r.at) (regs_line s.regs) f.0 s.note s.facts s.dirty s.blocks (line ++ newline) kept.begun.0 kept.begun.1 kept.begun.2 kept.begun.3 whole;
       image = refl;
     })
@@ -375,6 +391,7 @@ pub record IsPart (stage : Stage) (r : Reading) : Type 0 where
   pub marked : ascend is_above r.marked ≡ true
   pub rows : All (λ row. IsStateOf r.image row.1) r.rows
   pub made : are_made r.state ≡ true
+  pub noted : ForSome r.state.note IsWellNote
 
 note_added : (base regs flags : List ℕ) (said : Option Note) (n : Note) (facts : List (Fact Bounded)) (dirty : List Dirty) (blocks : List Counted) (line : List ℕ)
     → said ≡ None → facts ≡ [] → dirty ≡ [] → blocks ≡ [] → line ≡ note_line (Some n)
@@ -406,19 +423,26 @@ made_more s f made own =
     in
     both_true (list_all is_made s.regs) (list_all is_value (s.facts ++ f ∷ [])) h.0 facts
 
+note_of : (n : Note) → is_well_note n ≡ true → compared_with n < 2 ^ 32 → IsWellNote n
+note_of (Register r c) e small = (below r 8 e, small)
+note_of (Word o c) e small = (inside-of (interval_at (In Stack) o (pos 4)) e, small)
+
+now_noted : (n : Note) → IsWellNote n → ForSome (Some n) IsWellNote
+now_noted n well m e = let same : n ≡ m = cc in subst IsWellNote same well
+
 module _ (stage : Stage) (r t : Reading) (line : List ℕ) (part : IsPart stage r) where
   adds : (u : Reading) → ◌≡◌ {A = Result Reading ℕ} (Ok u) (Ok t) → KeepsAt u.stage u → said_at u.stage u ≡ said_state r ++ (line ++ newline) → u.image ≡ r.image → Adds stage r t line
   adds u h kept text image =
       subst (λ (x : Reading). Adds stage r x line) (same_ok u t h) (record { kept = kept; text = text ∙ ap (λ l. l ++ (line ++ newline)) (sym part.tells); image = image })
 
-  note_by : (n : Note) → nat_lt (part_of stage) 1 ≡ true → line ++ newline ≡ note_line (Some n) → note_step r n ≡ Ok t → Adds stage r t line
+  note_by : (n : Note) → nat_lt (part_of stage) 1 ≡ true → compared_with n < 2 ^ 32 → line ++ newline ≡ note_line (Some n) → note_step r n ≡ Ok t → Adds stage r t line
   unfolding note_step state_text
-  note_by n first whole h =
+  note_by n first small whole h =
       let s : StateData Bounded = r.state in
       let u : Reading = record r { stage = stages.Note; state = record (r.state) { note = Some n } } in
       let i : (is_well_note n ≡ true) × (Ok u ≡ Ok t) = if_ok (is_well_note n) CONTENT (Ok u) t h in
       let c = part.clear first in
-      adds u i.1 (record { begun = (c.1, c.2, c.3); k = part.k; marked = part.marked; rows = part.rows; made = part.made })
+      adds u i.1 (record { begun = (c.1, c.2, c.3); k = part.k; marked = part.marked; rows = part.rows; made = part.made; noted = now_noted n (note_of n i.0 small) })
       (note_added (front r ++ row_line r.at) (regs_line s.regs) (flags_line s.flags) s.note n s.facts s.dirty s.blocks (line ++ newline) c.0 c.1 c.2 c.3 whole) refl
 
   fact_by : (f : Fact Bounded) → nat_le (part_of stage) 2 ≡ true → is_made f.value ≡ true → line ++ newline ≡ fact_line f → fact_step r f ≡ Ok t → Adds stage r t line
@@ -430,7 +454,7 @@ module _ (stage : Stage) (r t : Reading) (line : List ℕ) (part : IsPart stage 
       let i : (follows_last is_fact_above r.state.facts f ≡ true) × (demand content CONTENT (Ok u) ≡ Ok t) = if_ok (follows_last is_fact_above r.state.facts f) ORDER (demand content CONTENT (Ok u)) t h in
       let j : (content ≡ true) × (Ok u ≡ Ok t) = if_ok content CONTENT (Ok u) t i.1 in
       let c = part.undirtied on in
-      adds u j.1 (record { begun = c; k = part.k; marked = part.marked; rows = part.rows; made = made_more s f part.made made })
+      adds u j.1 (record { begun = c; k = part.k; marked = part.marked; rows = part.rows; made = made_more s f part.made made; noted = part.noted })
       (fact_added (front r ++ row_line r.at) (regs_line s.regs ++ flags_line s.flags ++ note_line s.note) s.facts f s.dirty s.blocks (line ++ newline) c.0 c.1 whole) refl
 
   dirty_by : (d : Dirty) → nat_le (part_of stage) 3 ≡ true → line ++ newline ≡ dirty_line d → dirty_step r d ≡ Ok t → Adds stage r t line
@@ -441,7 +465,7 @@ module _ (stage : Stage) (r t : Reading) (line : List ℕ) (part : IsPart stage 
       let content : Bool = is_sound_dirty d && (is_dirty_of r.image d && follows_last dirty_before r.state.dirty d) in
       let i : (follows_last is_dirty_above r.state.dirty d ≡ true) × (demand content CONTENT (Ok u) ≡ Ok t) = if_ok (follows_last is_dirty_above r.state.dirty d) ORDER (demand content CONTENT (Ok u)) t h in
       let j : (content ≡ true) × (Ok u ≡ Ok t) = if_ok content CONTENT (Ok u) t i.1 in
-      adds u j.1 (record { begun = part.uncounted on; k = part.k; marked = part.marked; rows = part.rows; made = part.made })
+      adds u j.1 (record { begun = part.uncounted on; k = part.k; marked = part.marked; rows = part.rows; made = part.made; noted = part.noted })
       (dirty_added (front r ++ row_line r.at) (regs_line s.regs ++ flags_line s.flags ++ note_line s.note ++ flat_map fact_line s.facts) s.dirty d s.blocks (line ++ newline) (part.uncounted on) whole) refl
 
   block_by : (c : Counted) → line ++ newline ≡ block_line c → block_step r c ≡ Ok t → Adds stage r t line
@@ -451,13 +475,13 @@ module _ (stage : Stage) (r t : Reading) (line : List ℕ) (part : IsPart stage 
       let u : Reading = record r { stage = stages.Blocks; state = record (r.state) { blocks = r.state.blocks ++ c ∷ [] } } in
       let i : (follows_last count_before r.state.blocks c ≡ true) × (demand (is_block c) CONTENT (Ok u) ≡ Ok t) = if_ok (follows_last count_before r.state.blocks c) ORDER (demand (is_block c) CONTENT (Ok u)) t h in
       let j : (is_block c ≡ true) × (Ok u ≡ Ok t) = if_ok (is_block c) CONTENT (Ok u) t i.1 in
-      adds u j.1 (record { begun = tt; k = part.k; marked = part.marked; rows = part.rows; made = part.made })
+      adds u j.1 (record { begun = tt; k = part.k; marked = part.marked; rows = part.rows; made = part.made; noted = part.noted })
       (block_added (front r ++ row_line r.at) (regs_line s.regs ++ flags_line s.flags ++ note_line s.note ++ flat_map fact_line s.facts ++ flat_map dirty_line s.dirty) s.blocks c (line ++ newline) whole) refl
 
 part_at : (stage : Stage) (r : Reading) → nat_le (part_of stage) 4 ≡ true → KeepsAt stage r → (said_at stage r ≡ said_state r) → (is_k r.k ≡ true)
     → (nat_lt (part_of stage) 1 ≡ true → IsClear r.state) → (nat_le (part_of stage) 2 ≡ true → (r.state.dirty ≡ []) × (r.state.blocks ≡ [])) → (nat_le (part_of stage) 3 ≡ true → r.state.blocks ≡ []) → IsPart stage r
 part_at stage r four kept tells k clear undirtied uncounted =
-    record { clear = clear; undirtied = undirtied; uncounted = uncounted; tells = tells; k = k; marked = kept.marked; rows = kept.rows; made = kept.made }
+    record { clear = clear; undirtied = undirtied; uncounted = uncounted; tells = tells; k = k; marked = kept.marked; rows = kept.rows; made = kept.made; noted = kept.noted }
 
 never : {A : Type 0} → false ≡ true → A
 never e = absurd (cc)
@@ -502,6 +526,31 @@ closed_by-ok : (r u : Reading) (o : Option (Known Bounded)) → built bounded r.
 closed_by-ok r u None e h = cc
 closed_by-ok r u (Some s) e h = (s, e, same_ok _ u h)
 
+-- a state that is built of lists with a well note is well
+module _ (image : Image) (p : StateData Bounded) (s : Known Bounded) (noted : ForSome p.note IsWellNote) where
+  well_by : (g : Regs Bounded) (t : Truths) (passed : Bool) → registers_of p.regs ≡ Some g → (is_state bounded image p && is_note p.note) ≡ passed
+      → ◌≡◌ {A = Option (Known Bounded)} (if passed then Some (record { regs = g; flags = t; note = p.note; parts = parts_of p }) else None) (Some s) → IsWellState bounded s
+  well_by g t true r e h =
+      let made : Known Bounded = record { regs = g; flags = t; note = p.note; parts = parts_of p } in
+      let same : made ≡ s = cc in
+      subst (IsWellState bounded) same (built-well bounded image p g t (both (is_state bounded image p) (is_note p.note) e).0 r noted)
+  well_by g t false r e h = cc
+
+  flags_well : (g : Regs Bounded) (t : Option Truths) → registers_of p.regs ≡ Some g
+      → option_and_then (λ (flags : Truths). if is_state bounded image p && is_note p.note then Some (let made : Known Bounded = record { regs = g; flags = flags; note = p.note; parts = parts_of p } in made) else None) t ≡ Some s → IsWellState bounded s
+  flags_well g None r h = cc
+  flags_well g (Some t) r h = well_by g t (is_state bounded image p && is_note p.note) r refl h
+
+  registers_well : (g : Option (Regs Bounded)) → registers_of p.regs ≡ g
+      → option_and_then (λ (regs : Regs Bounded). option_and_then (λ (flags : Truths). if is_state bounded image p && is_note p.note then Some (let made : Known Bounded = record { regs = regs; flags = flags; note = p.note; parts = parts_of p } in made) else None) (truths_of p.flags)) g ≡ Some s
+      → IsWellState bounded s
+  registers_well None r h = cc
+  registers_well (Some g) r h = flags_well g (truths_of p.flags) r h
+
+  built_well : built bounded image p ≡ Some s → IsWellState bounded s
+  unfolding built
+  built_well h = registers_well (registers_of p.regs) refl h
+
 whole_of : (stage : Stage) (r u : Reading) → IsPart stage r → closed r ≡ Ok u → IsWhole stage r u
 unfolding closed
 whole_of stage r u part h =
@@ -513,7 +562,7 @@ whole_of stage r u part h =
       clear = (refl, refl, refl, refl);
       k = part.k;
       marked = part.marked;
-      rows = All-push (λ (row : ℕ × Known Bounded). IsStateOf r.image row.1) r.rows (r.at, c.0) part.rows (record { bytes = b.1; made = ap are_made b.0 ∙ part.made });
+      rows = All-push (λ (row : ℕ × Known Bounded). IsStateOf r.image row.1) r.rows (r.at, c.0) part.rows (record { well = built_well r.image r.state c.0 part.noted c.1; bytes = b.1; made = ap are_made b.0 ∙ part.made });
       made = refl;
     })
 
@@ -598,7 +647,7 @@ module _ (stage : Stage) (r t : Reading) (line : List ℕ) (part : IsPart stage 
       → Adds stage r t line
   state_by word fs true fact dirty block true second third parts a b c d p q s h =
       let f : (n : Note) × (note_fields fs ≡ Some n) × (note_step r n ≡ Ok t) = found_ok FIELD (note_fields fs) (note_step r) t h in
-      note_by stage r t line part f.0 p (ap (λ l. l ++ newline) (worded line word (codes "note") fs (note_list f.0) parts a (note_told fs f.0 f.1)) ∙ note_text f.0) f.2
+      note_by stage r t line part f.0 p (note_small fs f.0 f.1) (ap (λ l. l ++ newline) (worded line word (codes "note") fs (note_list f.0) parts a (note_told fs f.0 f.1)) ∙ note_text f.0) f.2
   state_by word fs true fact dirty block false second third parts a b c d p q s h = other_by word fs fact dirty block second third parts b c d q s h
   state_by word fs false fact dirty block first second third parts a b c d p q s h = other_by word fs fact dirty block second third parts b c d q s h
 
@@ -716,7 +765,7 @@ k_over stages.Dirty k e h = cc
 k_over stages.Blocks k e h = cc
 
 keeps_nothing : (image : Image) → KeepsAt stages.Start (nothing image)
-keeps_nothing image = record { begun = (refl, refl, (refl, refl, refl, refl)); k = tt; marked = refl; rows = All-nil _; made = refl }
+keeps_nothing image = record { begun = (refl, refl, (refl, refl, refl, refl)); k = tt; marked = refl; rows = All-nil _; made = refl; noted = unnoted refl }
 
 at_most : (a b : ℕ) → nat_le a b ≡ true → a ≤ b
 at_most a b e = grind (arith, nat_tests)
@@ -744,3 +793,8 @@ read_by image text t (Ok r) short is h =
 pub texts_tell : TextsTellTables
 unfolding table_read
 texts_tell image text t short h = read_by image text t (read_text table_grammar (nothing image) text) short refl h
+
+-- the states of a table that a text tells are well
+pub told-well : (image : Image) (text : List ℕ) (table : Table Bounded) → length text < 2 ^ 64 → table_read image text ≡ Ok table → All (λ row. IsWellState bounded row.1) table.rows
+told-well image text table short read =
+    All-weaker (λ (row : ℕ × Known Bounded). IsStateOf image row.1) (λ (row : ℕ × Known Bounded). IsWellState bounded row.1) (λ row is. is.well) table.rows (texts_tell image text table short read).0.rows
