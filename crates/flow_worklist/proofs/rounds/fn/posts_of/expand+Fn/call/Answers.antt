@@ -1,0 +1,5 @@
+use Rattle.std.proofs.Common.{rules}
+use Rattle.flow_worklist.proofs.rounds.fn.posts_of.expand+Fn.call.Goals as goal
+
+pub expand-requires : goal.expand-requires
+expand-requires g c = search rules
