@@ -28,6 +28,10 @@ all_zip_append R [] us (y ∷ ys) vs h k = absurd h
 all_zip_append R (x ∷ xs) us [] vs h k = absurd h
 all_zip_append R (x ∷ xs) us (y ∷ ys) vs h k = (h.0, all_zip_append R xs us ys vs h.1 k)
 
+pub no_length : {X : Type 0} (xs : List X) → length xs ≡ 0 → xs ≡ []
+no_length [] e = refl
+no_length (x ∷ xs) e = absurd (omega arith)
+
 -- past the end of a list nothing comes later
 none_later : {X : Type 0} (xs : List X) (n m : ℕ) → slice_get xs n ≡ None → slice_get xs (n + m) ≡ None
 none_later [] n m none = refl
@@ -175,7 +179,7 @@ module _ {D : Type 0} (d : Values D) (image : Image) (stubs : StatedStubs) (k bu
   pub posts_joined : (size : ℕ) (pieces : List (Result (Vec (Post D) Global) NoMemory)) (rows : List (Row (Known D))) (posts : List (Post D)) → length rows ≤ length pieces * size
       → ArePieces size rows pieces → joined pieces ≡ Some posts → ArePosts d image stubs k rows posts
   posts_joined size [] [] [] room are is = tt
-  posts_joined size [] [] (post ∷ posts) room are is = absurd (nothing_is_more post posts (same_Some [] (post ∷ posts) is))
+  posts_joined size [] [] (answer ∷ answers) room are is = absurd (nothing_is_more answer answers (same_Some [] (answer ∷ answers) is))
   posts_joined size [] (row ∷ rows) posts room are is = absurd (omega (arith, room, zero-mul size))
   posts_joined size (Err fault ∷ pieces) rows posts room are is = absurd (none_is_some posts is)
   posts_joined size (Ok part ∷ pieces) rows posts room are is =

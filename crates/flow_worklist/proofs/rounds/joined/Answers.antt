@@ -1,16 +1,12 @@
 -- One more piece.
-use Rattle.std.proofs.Common.{◌≡◌, List, [], ◌∷◌, length, refl, sym, ◌∙◌, ap, arith, rules, vec_len}
+use Rattle.std.proofs.Common.{◌≡◌, List, [], ◌∷◌, length, sym, ◌∙◌, ap, arith, rules, vec_len}
 use Rattle.std.specs.Prelude.{Result, Vec}
 use Rattle.std.specs.Vec.Iter.{into_iter_items}
 use Rattle.std.specs.declared.alloc.Global.{Global}
 use Rattle.bit_words.specs.declared.memory.NoMemory.{NoMemory}
 use Rattle.flow_worklist.specs.declared.post.Post.{Post}
-use Rattle.flow_worklist.proofs.Taking.{joining_starts, joining_more, joining_ends}
+use Rattle.flow_worklist.proofs.Taking.{joining_starts, joining_more, joining_ends, no_length}
 use Rattle.flow_worklist.proofs.rounds.joined.Goals as goal
-
-no_length : {X : Type 0} (xs : List X) → length xs ≡ 0 → xs ≡ []
-no_length [] e = refl
-no_length (x ∷ xs) e = absurd (omega arith)
 
 pub loop-piece-init : goal.loop-piece-init
 loop-piece-init g c =

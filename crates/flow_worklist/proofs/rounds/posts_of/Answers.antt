@@ -1,5 +1,5 @@
 -- Each piece has the expansions of its rows, whichever thread makes them.
-use Rattle.std.proofs.Common.{◌<◌, ◌+◌, ◌^◌, List, length, take, drop, get_or, subst, arith, rules}
+use Rattle.std.proofs.Common.{◌<◌, ◌+◌, ◌^◌, List, length, get_or, subst, arith, rules}
 use Rattle.std.specs.Prelude.{IfOk}
 use Rattle.std.proofs.lemmas.Result.{IfOk-weaker}
 use denote.Param.Send.{sendable}
