@@ -1,10 +1,14 @@
 -- Expansions that are made before any is taken in are those that the definition makes one after another.
-use Rattle.std.proofs.Common.{◌≡◌, ℕ, zero, suc, ◌+◌, ◌-◌, ◌<◌, ◌≤◌, ◌⊎◌, inl, inr, min, eq-zero-or-pos, List, [], ◌∷◌, ◌++◌, length, take, get_or, Option, Some, None, refl, sym, ◌∙◌, ap, subst, arith}
-use Rattle.std.specs.Prelude.{slice_get}
+use Rattle.std.proofs.Common.{◌≡◌, ℕ, zero, suc, ◌+◌, ◌-◌, ◌*◌, ◌/◌, ◌%◌, ◌<◌, ◌≤◌, ◌⊎◌, inl, inr, min, eq-zero-or-pos, List, [], ◌∷◌, ◌++◌, length, take, drop, get_or, Option, Some, None, refl, sym, ◌∙◌, ap, subst, arith, append_assoc}
+use Rattle.std.proofs.Math.Nat.{add-mul, one-mul, suc-mul, zero-mul}
+use Rattle.std.specs.Prelude.{slice_get, option_map, Result, Ok, Err, IfOk, Vec}
 use Rattle.std.specs.List.{AllZip}
-use Rattle.std.proofs.lemmas.List.{take_more}
-use Rattle.std.proofs.lemmas.Option.{slice_get_past}
+use Rattle.std.specs.declared.alloc.Global.{Global}
+use Rattle.std.proofs.lemmas.List.{take_more, take-append-drop, drop-drop, length-drop, append-nil}
+use Rattle.std.proofs.lemmas.Nat.{div-add-mod', mod_below}
+use Rattle.std.proofs.lemmas.Option.{slice_get_past, same_Some}
 use Rattle.std.proofs.lemmas.Slice.Zip.{all_zipped_more, AllZip-long}
+use Rattle.bit_words.specs.declared.memory.NoMemory.{NoMemory}
 use Rattle.domain_laws.specs.Laws.{Values}
 use Rattle.memory_map.specs.Image.{Image}
 use Rattle.stub_file.specs.Stubs.{StatedStubs}
@@ -14,7 +18,7 @@ use Rattle.abstract_state.specs.State.{Known}
 use Rattle.flow_worklist.specs.declared.post.Post.{Post}
 use Rattle.flow_worklist.specs.Analysis.{ImageLog, analysis_of}
 use Rattle.flow_worklist.specs.PostOf.{IsPostOf}
-use Rattle.flow_worklist.specs.Rounds.{ArePosts, with_post, with_posts}
+use Rattle.flow_worklist.specs.Rounds.{ArePosts, joined, with_post, with_posts}
 use Rattle.flow_worklist.proofs.Expanding.{expanded_is, explored_one, explored_past, explored_spent}
 
 -- two lists related place by place, and two more behind them
@@ -23,6 +27,10 @@ all_zip_append R [] us [] vs h k = k
 all_zip_append R [] us (y ∷ ys) vs h k = absurd h
 all_zip_append R (x ∷ xs) us [] vs h k = absurd h
 all_zip_append R (x ∷ xs) us (y ∷ ys) vs h k = (h.0, all_zip_append R xs us ys vs h.1 k)
+
+pub no_length : {X : Type 0} (xs : List X) → length xs ≡ 0 → xs ≡ []
+no_length [] e = refl
+no_length (x ∷ xs) e = absurd (omega arith)
 
 -- past the end of a list nothing comes later
 none_later : {X : Type 0} (xs : List X) (n m : ℕ) → slice_get xs n ≡ None → slice_get xs (n + m) ≡ None
@@ -68,6 +76,62 @@ stand_between from all before rest rows after whole part len i within =
     ∙ ap (λ l. slice_get l i) part
     ∙ at_front rows after i within
 
+-- pieces of a size, as many as it takes, have room for all of a list
+pub covering : (count len size : ℕ) → 0 < size → count ≡ len / size + min 1 (len % size) → len ≤ count * size
+covering count len size some is = by_rest (eq-zero-or-pos (len % size))
+  where
+    whole : len / size * size + len % size ≡ len
+    whole = div-add-mod' len size
+
+    by_rest : (len % size ≡ 0) ⊎ (0 < len % size) → len ≤ count * size
+    by_rest (inl none) =
+        let e : count ≡ len / size = omega (arith, is, none) in
+        let f : count * size ≡ len / size * size = ap (λ n. n * size) e in
+        omega (arith, whole, none, f)
+    by_rest (inr left) =
+        let e : count ≡ len / size + 1 = omega (arith, is, left) in
+        let f : count * size ≡ (len / size + 1) * size = ap (λ n. n * size) e in
+        omega (arith, whole, mod_below len size some, f, add-mul (len / size) 1 size, one-mul size)
+
+behind_none : {X : Type 0} (o : Option (List X)) → option_map (λ (xs : List X). [] ++ xs) o ≡ o
+behind_none None = refl
+behind_none (Some xs) = refl
+
+behind_both : {X : Type 0} (xs ys : List X) (o : Option (List X)) → option_map (λ (l : List X). xs ++ l) (option_map (λ (l : List X). ys ++ l) o) ≡ option_map (λ (l : List X). (xs ++ ys) ++ l) o
+behind_both xs ys None = refl
+behind_both xs ys (Some l) = ap Some (sym (append_assoc xs ys l))
+
+none_is_some : {X : Type 0} (xs : List X) → None ≡ Some xs → ⊥
+none_is_some xs e = grind arith
+
+nothing_is_more : {X : Type 0} (x : X) (xs : List X) → [] ≡ x ∷ xs → ⊥
+nothing_is_more x xs e = cc
+
+module _ {X E : Type 0} where
+  -- what is joined so far, and the pieces to come
+  abbrev pub IsJoining : List (Result (Vec X Global) E) → List X → List (Result (Vec X Global) E) → Type 0
+  IsJoining pieces xs rest = joined pieces ≡ option_map (λ (l : List X). xs ++ l) (joined rest)
+
+  pub joining_starts : (pieces rest : List (Result (Vec X Global) E)) (xs : List X) → rest ≡ pieces → xs ≡ [] → IsJoining pieces xs rest
+  joining_starts pieces rest xs same none =
+      let P : List X → Type 0 = λ l. IsJoining pieces l rest in
+      subst P (sym none) (ap (λ (l : List (Result (Vec X Global) E)). joined l) (sym same) ∙ sym (behind_none (joined rest)))
+
+  pub joining_more : (pieces left rest : List (Result (Vec X Global) E)) (piece : Result (Vec X Global) E) (part : Vec X Global) (xs both : List X)
+      → left ≡ piece ∷ rest → piece ≡ Ok part → both ≡ xs ++ part.items → IsJoining pieces xs left → IsJoining pieces both rest
+  joining_more pieces left rest piece part xs both steps ok pushed so_far =
+      let P : List X → Type 0 = λ l. IsJoining pieces l rest in
+      subst P (sym pushed) (
+      so_far
+      ∙ ap (λ (l : List (Result (Vec X Global) E)). option_map (λ (ys : List X). xs ++ ys) (joined l)) steps
+      ∙ ap (λ (p : Result (Vec X Global) E). option_map (λ (ys : List X). xs ++ ys) (joined (p ∷ rest))) ok
+      ∙ behind_both xs part.items (joined rest)
+      )
+
+  pub joining_ends : (pieces rest : List (Result (Vec X Global) E)) (xs : List X) → rest ≡ [] → IsJoining pieces xs rest → joined pieces ≡ Some xs
+  joining_ends pieces rest xs none so_far =
+      so_far ∙ ap (λ (l : List (Result (Vec X Global) E)). option_map (λ (ys : List X). xs ++ ys) (joined l)) none ∙ ap Some (append-nil xs)
+
 module _ {D : Type 0} (d : Values D) (image : Image) (stubs : StatedStubs) (k budget : ℕ) where
   abbrev went : ℕ → ℕ → ImageLog D → ImageLog D
   went fuel number log = explored (analysis_of d image stubs k) budget fuel number log
@@ -90,6 +154,45 @@ module _ {D : Type 0} (d : Values D) (image : Image) (stubs : StatedStubs) (k bu
       let P : List (Post D) → Type 0 = λ l. AllZip R (front ++ back) l in
       let Q : List (Row (Known D)) → Type 0 = λ l. AllZip R l posts in
       subst Q (sym whole) (subst P (sym joined) (all_zip_append R front back first second are more))
+
+  -- each piece of some rows has its expansions, where it has an answer
+  abbrev pub ArePieces : ℕ → List (Row (Known D)) → List (Result (Vec (Post D) Global) NoMemory) → Type 0
+  ArePieces size rows pieces =
+      (n : ℕ) (none : Result (Vec (Post D) Global) NoMemory) → n < length pieces
+      → IfOk (get_or pieces n none) (λ part. ArePosts d image stubs k (take size (drop (n * size) rows)) part.items)
+
+  first_piece : (size : ℕ) (rows : List (Row (Known D))) (part : Vec (Post D) Global) (pieces : List (Result (Vec (Post D) Global) NoMemory)) → ArePieces size rows (Ok part ∷ pieces)
+      → ArePosts d image stubs k (take size rows) part.items
+  first_piece size rows part pieces are =
+      let P : ℕ → Type 0 = λ n. ArePosts d image stubs k (take size (drop n rows)) part.items in
+      subst P (zero-mul size) (are zero (Ok part) (omega arith))
+
+  later_pieces : (size : ℕ) (rows : List (Row (Known D))) (piece : Result (Vec (Post D) Global) NoMemory) (pieces : List (Result (Vec (Post D) Global) NoMemory))
+      → ArePieces size rows (piece ∷ pieces) → ArePieces size (drop size rows) pieces
+  later_pieces size rows piece pieces are n none within =
+      let P : List (Row (Known D)) → Type 0 = λ l. IfOk (get_or pieces n none) (λ part. ArePosts d image stubs k (take size l) part.items) in
+      let e : suc n * size ≡ size + n * size = omega (arith, suc-mul n size) in
+      let f : drop (suc n * size) rows ≡ drop (n * size) (drop size rows) = ap (λ m. drop m rows) e ∙ sym (drop-drop (n * size) size rows) in
+      subst P f (are (suc n) none (omega arith))
+
+  -- the expansions of the pieces of some rows, joined
+  pub posts_joined : (size : ℕ) (pieces : List (Result (Vec (Post D) Global) NoMemory)) (rows : List (Row (Known D))) (posts : List (Post D)) → length rows ≤ length pieces * size
+      → ArePieces size rows pieces → joined pieces ≡ Some posts → ArePosts d image stubs k rows posts
+  posts_joined size [] [] [] room are is = tt
+  posts_joined size [] [] (answer ∷ answers) room are is = absurd (nothing_is_more answer answers (same_Some [] (answer ∷ answers) is))
+  posts_joined size [] (row ∷ rows) posts room are is = absurd (omega (arith, room, zero-mul size))
+  posts_joined size (Err fault ∷ pieces) rows posts room are is = absurd (none_is_some posts is)
+  posts_joined size (Ok part ∷ pieces) rows posts room are is =
+      let whole : length {A = Result (Vec (Post D) Global) NoMemory} (Ok part ∷ pieces) ≡ suc (length pieces) = omega arith in
+      let later : length (drop size rows) ≤ length pieces * size = omega (arith, room, ap (λ n. n * size) whole, suc-mul (length pieces) size, length-drop size rows) in
+      by_rest (λ rest. posts_joined size pieces (drop size rows) rest later (later_pieces size rows (Ok part) pieces are)) (joined pieces) refl
+    where
+      by_rest : ((rest : List (Post D)) → joined pieces ≡ Some rest → ArePosts d image stubs k (drop size rows) rest) → (o : Option (List (Post D))) → joined pieces ≡ o → ArePosts d image stubs k rows posts
+      by_rest ih None at =
+          absurd (none_is_some posts (sym (ap (λ (o : Option (List (Post D))). option_map (λ (l : List (Post D)). part.items ++ l) o) at) ∙ is))
+      by_rest ih (Some rest) at =
+          let both : posts ≡ part.items ++ rest = same_Some posts (part.items ++ rest) (sym is ∙ ap (λ (o : Option (List (Post D))). option_map (λ (l : List (Post D)). part.items ++ l) o) at) in
+          posts_both rows (take size rows) (drop size rows) posts part.items rest (sym (take-append-drop size rows)) both (first_piece size rows part pieces are) (ih rest at)
 
   pub posts_long : (rows : List (Row (Known D))) (posts : List (Post D)) → ArePosts d image stubs k rows posts → length posts ≡ length rows
   posts_long rows posts are = AllZip-long (λ (r : Row (Known D)) (a : Post D). IsPostOf d image stubs k r.location r.state a) rows posts are

@@ -1,6 +1,7 @@
 -- What the expansions of the rows of a round are, and a log with them taken in.
-use Rattle.std.specs.Prelude.{ℕ, ◌+◌, List, [], ◌∷◌}
+use Rattle.std.specs.Prelude.{ℕ, ◌+◌, List, [], ◌∷◌, ◌++◌, Option, Some, None, option_map, Result, Ok, Err, Vec}
 use Rattle.std.specs.List.{AllZip}
+use Rattle.std.specs.declared.alloc.Global.{Global}
 use Rattle.domain_laws.specs.Laws.{Values}
 use Rattle.memory_map.specs.Image.{Image}
 use Rattle.stub_file.specs.Stubs.{StatedStubs}
@@ -9,6 +10,12 @@ use Rattle.abstract_state.specs.State.{Known, covers_state}
 use Rattle.flow_worklist.specs.declared.post.Post.{Post}
 use Rattle.flow_worklist.specs.Analysis.{ImageLog, edge_by, widened_by}
 use Rattle.flow_worklist.specs.PostOf.{IsPostOf}
+
+-- what several lists have, one list after another, where none is refused
+abbrev pub joined : {X E : Type 0} → List (Result (Vec X Global) E) → Option (List X)
+joined [] = Some []
+joined (Ok part ∷ parts) = option_map (λ rest. part.items ++ rest) (joined parts)
+joined (Err e ∷ parts) = None
 
 module _ {D : Type 0} (d : Values D) where
   -- each row's expansion, by its own location and state alone

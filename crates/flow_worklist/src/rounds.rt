@@ -1,10 +1,9 @@
-ghost use Rattle.std.specs.Prelude.{ℕ, ◌≡◌, ◌<◌, ◌≤◌, ◌^◌, ◌+◌, ◌-◌, IfOk, OnOk, length, min, slice_get, take, drop, vec_len};
-ghost use Rattle.std.specs.Thread.{IsSend, IsSync};
+ghost use Rattle.std.specs.Prelude.{ℕ, ◌≡◌, ◌<◌, ◌≤◌, ◌^◌, ◌+◌, ◌-◌, Some, IfOk, OnOk, length, min, slice_get, take, drop, vec_len};
 ghost use Rattle.domain_laws.specs.Made.{values_of};
 ghost use Rattle.flow_log.specs.Log.{explored};
 ghost use Rattle.flow_worklist.specs.Analysis.{analysis_of, image_log};
 ghost use Rattle.flow_worklist.specs.Exploring.{IsIndexed, log_in};
-ghost use Rattle.flow_worklist.specs.Rounds.{ArePosts, with_posts};
+ghost use Rattle.flow_worklist.specs.Rounds.{ArePosts, joined, with_posts};
 
 use crate::exploring::{Exploration, Limits};
 use crate::gate::{Gate, OpenGate};
@@ -14,7 +13,7 @@ use bit_words::NoMemory;
 use domain_laws::Domain;
 use image_loader::Image;
 use std::alloc::Global;
-use std::thread::{Threads, join};
+use std::thread::{Threads, map_chunks};
 use stub_file::Stubs;
 
 /// How many rows a round of `explore` has at most.
@@ -34,23 +33,6 @@ struct Rounds<'a, R: Threads + Sync, G: Gate> {
     round: u32,
     piece: u32,
     gate: &'a G,
-}
-
-// The number of a row, which a closure takes over that is called once.
-#[derive(Drop)]
-struct Number {
-    row: u32,
-}
-
-// The end of the first half of some rows, at the end of a piece.
-fn half(rows: usize, piece: usize) -> usize
-    requires some { 0 < piece }
-    requires several { piece < rows }
-    ensures some { 0 < result }
-    ensures inside { result < rows }
-{
-    let half = rows / 2;
-    piece.max(half - half % piece)
 }
 
 // The expansions of rows, one after another; the first has the number `from`.
@@ -76,8 +58,22 @@ fn piece_posts<D: Domain, G: Gate>(
     Ok(posts)
 }
 
+// The expansions of pieces, one piece after another. Refuses want of memory, and where that of a piece is refused.
+fn joined<D: Domain>(
+    alloc: Global,
+    pieces: Vec<Result<Vec<Post<D>>, NoMemory>>,
+) -> Result<Vec<Post<D>>, NoMemory>
+    ensures { IfOk result (λ posts. joined pieces.items ≡ Some posts.items) }
+{
+    let mut posts = Vec::new(alloc);
+    for piece in pieces {
+        let mut more = piece?;
+        posts.append(&mut more)?;
+    }
+    Ok(posts)
+}
+
 // The expansions of rows, in order, each piece of them in a thread of its own; the first has the number `from`.
-#[cycle(halves)]
 fn posts_of<R: Threads + Sync, D: Domain, G: Gate>(
     rt: &R,
     alloc: Global,
@@ -87,61 +83,22 @@ fn posts_of<R: Threads + Sync, D: Domain, G: Gate>(
     piece: usize,
     gate: &G,
     exploration: &Exploration<D>,
-    from: Number,
+    from: u32,
     rows: &[Row<D>],
 ) -> Result<Vec<Post<D>>, NoMemory>
     requires piece { 0 < piece }
-    requires few { from.row + length rows.now < 2 ^ 32 }
+    requires few { from + length rows.now < 2 ^ 32 }
     ensures { IfOk result (λ posts. ArePosts (values_of D.Domain.own D.eq) image.now stubs.now k rows.now posts.items) }
 {
-    if rows.len() <= piece {
-        return piece_posts(alloc, image, stubs, k, gate, exploration, from.row, rows);
-    }
-    let middle = half(rows.len(), piece);
-    let (front, back) = rows.split_at(middle);
-    let later = Number {
-        row: from.row + middle as u32,
-    };
-    let earlier = Number { row: from.row };
-    let earlier_posts = move || -> Result<Vec<Post<D>>, NoMemory>
-        requires { IsSync R.row × IsSync D.row × IsSync G.row × IsSend D.row × (0 < piece) × (earlier.row + length front.now < 2 ^ 32) }
-        ensures { IfOk result (λ posts. ArePosts (values_of D.Domain.own D.eq) image.entry.now stubs.entry.now k front.entry.now posts.items) }
+    let expand = move |start: usize, chunk: &[Row<D>]| -> Result<Vec<Post<D>>, NoMemory>
+        requires { from + start + length chunk.now < 2 ^ 32 }
+        ensures { IfOk result (λ posts. ArePosts (values_of D.Domain.own D.eq) image.entry.now stubs.entry.now k chunk.now posts.items) }
     {
-        posts_of(
-            rt,
-            alloc,
-            image,
-            stubs,
-            k,
-            piece,
-            gate,
-            exploration,
-            earlier,
-            front,
-        )
+        let first = from + start as u32;
+        piece_posts(alloc, image, stubs, k, gate, exploration, first, chunk)
     };
-    let later_posts = move || -> Result<Vec<Post<D>>, NoMemory>
-        requires { IsSync R.row × IsSync D.row × IsSync G.row × IsSend D.row × (0 < piece) × (later.row + length back.now < 2 ^ 32) }
-        ensures { IfOk result (λ posts. ArePosts (values_of D.Domain.own D.eq) image.entry.now stubs.entry.now k back.entry.now posts.items) }
-    {
-        posts_of(
-            rt,
-            alloc,
-            image,
-            stubs,
-            k,
-            piece,
-            gate,
-            exploration,
-            later,
-            back,
-        )
-    };
-    let (first, second) = join(rt, earlier_posts, later_posts);
-    let mut posts = first?;
-    let mut rest = second?;
-    posts.append(&mut rest)?;
-    Ok(posts)
+    let pieces = map_chunks(rt, alloc, rows, piece, &expand)?;
+    joined(alloc, pieces)
 }
 
 impl<R: Threads + Sync, G: Gate> Rounds<'_, R, G> {
@@ -218,7 +175,7 @@ impl<R: Threads + Sync, G: Gate> Rounds<'_, R, G> {
             self.piece as usize,
             self.gate,
             exploration,
-            Number { row: from },
+            from,
             round,
         )?;
         self.take_all(exploration, from, posts)?;

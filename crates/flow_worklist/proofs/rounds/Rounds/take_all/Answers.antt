@@ -1,16 +1,13 @@
 -- One more expansion.
-use Rattle.std.proofs.Common.{◌≡◌, ◌+◌, List, [], ◌∷◌, length, refl, sym, ◌∙◌, ap, arith, vec_len}
+use Rattle.std.proofs.Common.{◌≡◌, ◌+◌, List, [], ◌∷◌, length, sym, ◌∙◌, ap, arith, vec_len}
 use Rattle.std.specs.Vec.Iter.{into_iter_items}
 use Rattle.domain_laws.specs.Made.{values_of}
 use Rattle.flow_worklist.specs.declared.post.Post.{Post}
 use Rattle.flow_worklist.specs.Analysis.{ImageLog}
 use Rattle.flow_worklist.specs.Exploring.{log_in}
 use Rattle.flow_worklist.specs.Rounds.{with_posts}
+use Rattle.flow_worklist.proofs.Taking.{no_length}
 use Rattle.flow_worklist.proofs.rounds.Rounds.take_all.Goals as goal
-
-no_length : {X : Type 0} (xs : List X) → length xs ≡ 0 → xs ≡ []
-no_length [] e = refl
-no_length (x ∷ xs) e = absurd (omega arith)
 
 pub loop-post-init : goal.loop-post-init
 loop-post-init g c =
