@@ -16,7 +16,7 @@ use abstract_state::State;
 use bit_words::NoMemory;
 use bounded_values::Bounded;
 use flow_log::{Cause, sorted_set};
-use flow_worklist::{Limits, Log, Row, explore};
+use flow_worklist::{Gate, Limits, Log, PIECE, ROUND, Row, explore_in};
 use image_loader::Image;
 use memory_map::Items;
 use std::alloc::Global;
@@ -134,16 +134,17 @@ pub fn table_of(
 }
 
 /// The text of the table of an image's exploration over bounded values.
-pub fn table_text<R: Threads + Sync>(
+pub fn table_text<R: Threads + Sync, G: Gate>(
     rt: &R,
     alloc: Global,
     image: &Image,
     stubs: &Stubs,
     limits: Limits,
+    gate: &G,
 ) -> Result<Vec<u8>, NoMemory>
     ensures { IfOk result (λ text. text.items ≡ tabulated_text image.now stubs.now limits.k limits.budget) }
 {
-    let log = explore::<R, Bounded>(rt, alloc, image, stubs, limits)?;
+    let log = explore_in::<R, Bounded, G>(rt, alloc, image, stubs, limits, ROUND, PIECE, gate)?;
     let table = table_of(alloc, &log, image, stubs, limits.k)?;
     print_table(alloc, &table)
 }

@@ -114,14 +114,7 @@ fn output_of_image<R: Threads + Sync, G: Gate>(
             verdict_output(alloc, image, stubs, &automaton, &record)
         }
         Work::Tabulate { k, budget } => {
-            plain(table_text(
-                rt,
-                alloc,
-                image,
-                stubs,
-                Limits { k, budget },
-                gate,
-            ))
+            plain(table_text(rt, alloc, image, stubs, Limits { k, budget }, gate))
         }
         Work::Check { told } => check_output(rt, alloc, image, stubs, told.as_slice()),
         Work::Summarize { blocks, options } => {
