@@ -30,6 +30,7 @@ use Rattle.abstract_state.specs.declared.truth.Truth.{Truth}
 use Rattle.abstract_state.specs.declared.truth.Truth.TheVariants.{Yes, No, Unknown}
 use Rattle.abstract_state.specs.declared.note.Note.{Note}
 use Rattle.abstract_state.specs.declared.note.Note.TheVariants.{Register, Word}
+use Rattle.abstract_state.specs.Notes.{compared_with}
 use Rattle.table_check.specs.Fields.{address_fields, area_of, bit_of, block_by, block_fields, block_of, cut_at, dirty_fields, fact_fields, flags_fields, flags_of, inside_in, inside_of, k_fields, k_of, low_in, many_of, note_fields, place_by, place_of, region_by, region_of, register_note, register_of, regs_fields, truth_of, truths_by, value_by, value_of, width_of, window_of, word_note}
 use Rattle.table_check.specs.Text.{area_text, bit_text, count_text, offset_text, region_text, truth_code, value_text}
 use Rattle.table_check.specs.TextLaws.{is_made}
@@ -420,6 +421,33 @@ pub note_told : (fs : List (List ℕ)) (n : Note) → note_fields fs ≡ Some n 
 unfolding note_fields
 note_told [] n h = cc
 note_told (kind ∷ fs) n h = note_by kind fs n (bytes_eq kind (codes "reg")) (bytes_eq kind (codes "word")) refl refl h
+
+-- what a note was compared with is a word
+register_small : (fs : List (List ℕ)) (n : Note) → register_note fs ≡ Some n → compared_with n < 2 ^ 32
+unfolding register_note
+register_small fs n h =
+    let f = has_field register_of fs (λ r fs. then_field word_of fs (λ c fs. no_more (Register r c) fs)) n h in
+    let g = has_field word_of f.others (λ c fs. no_more (Register f.value c) fs) n f.after in
+    let d = is_done (Register f.value g.value) n g.others g.after in
+    subst (λ m. compared_with m < 2 ^ 32) d.same (word_small g.field g.value g.gives)
+
+word_note_small : (fs : List (List ℕ)) (n : Note) → word_note fs ≡ Some n → compared_with n < 2 ^ 32
+unfolding word_note
+word_note_small fs n h =
+    let f = has_field word_of fs (λ o fs. then_field word_of fs (λ c fs. no_more (Word (signed_of B32 o) c) fs)) n h in
+    let g = has_field word_of f.others (λ c fs. no_more (Word (signed_of B32 f.value) c) fs) n f.after in
+    let d = is_done (Word (signed_of B32 f.value) g.value) n g.others g.after in
+    subst (λ m. compared_with m < 2 ^ 32) d.same (word_small g.field g.value g.gives)
+
+small_by : (fs : List (List ℕ)) (n : Note) (reg word : Bool) → (if reg then register_note fs else if word then word_note fs else None) ≡ Some n → compared_with n < 2 ^ 32
+small_by fs n true word h = register_small fs n h
+small_by fs n false true h = word_note_small fs n h
+small_by fs n false false h = cc
+
+pub note_small : (fs : List (List ℕ)) (n : Note) → note_fields fs ≡ Some n → compared_with n < 2 ^ 32
+unfolding note_fields
+note_small [] n h = cc
+note_small (kind ∷ fs) n h = small_by fs n (bytes_eq kind (codes "reg")) (bytes_eq kind (codes "word")) h
 
 abbrev pub fact_list : Fact Bounded → List (List ℕ)
 fact_list f = area_text f.area ∷ offset_text f.low ∷ decimal (bytes_of f.w) ∷ value_text f.value ∷ []

@@ -1,5 +1,5 @@
 -- The text of a table of an image is read line by line, each line as what it was printed of.
-use Rattle.std.proofs.Common.{◌≡◌, ℕ, ◌+◌, ◌-◌, ◌<◌, ◌≤◌, ◌^◌, ◌==◌, Bool, true, false, List, [], ◌∷◌, ◌++◌, length, map, get_or, Option, None, Some, Ok, refl, sym, ◌∙◌, ap, subst, arith, append_assoc, append-nil, decimal, nat_lt, ℤ, ◌+ℤ◌}
+use Rattle.std.proofs.Common.{◌≡◌, ℕ, ◌+◌, ◌-◌, ◌<◌, ◌≤◌, ◌^◌, ◌==◌, Bool, true, false, List, [], ◌∷◌, ◌++◌, length, map, get_or, Option, None, Some, Ok, refl, sym, ◌∙◌, ap, subst, arith, append_assoc, append-nil, decimal, nat_lt, ◌+ℤ◌}
 use Rattle.std.specs.Prelude.{All, Result, codes, flat_map, nat_le, ◌&&◌, int_lt, option_map, slice_get, if◌then◌else◌}
 use Rattle.std.specs.Option.{option_map_or}
 use Rattle.std.specs.List.{list_all}
@@ -597,7 +597,7 @@ rows_reached image k marked s done [] loaded ready fits are = record {
 rows_reached image k marked s done (row ∷ todo) loaded ready fits are =
     let own : FitsRow row = All-head FitsRow row todo fits in
     let is : IsStateOf image row.1 = All-head (λ (x : ℕ × Known Bounded). IsStateOf image x.1) row todo are in
-    let back : built bounded image (plain_of row.1) ≡ Some row.1 = plain-built bounded image row.1 own.well is.bytes in
+    let back : built bounded image (plain_of row.1) ≡ Some row.1 = plain-built bounded image row.1 is.well is.bytes in
     let p : StateData Bounded = plain_of row.1 in
     let head : Reading = reading image stages.Row k marked done row.0 no_state in
     let state = state_reached image k marked done row.0 row.1 loaded own.state is back in

@@ -1,7 +1,7 @@
 -- What a table's text tells is a table of the image, and the text is that table's.
-use Rattle.std.proofs.Common.{◌≡◌, ℕ, suc, ◌+◌, ◌-◌, ◌<◌, ◌≤◌, ◌^◌, ◌==◌, Bool, true, false, List, [], ◌∷◌, ◌++◌, length, map, Option, None, Some, Ok, Err, refl, sym, ◌∙◌, ap, subst, arith, append_assoc, append-nil, decimal}
-use Rattle.std.specs.Prelude.{All, Result, codes, flat_map, nat_le, nat_lt, ◌&&◌, slice_get, if◌then◌else◌}
-use Rattle.std.specs.Option.{option_map_or}
+use Rattle.std.proofs.Common.{◌≡◌, ℕ, suc, ◌+◌, ◌-◌, ◌<◌, ◌≤◌, ◌^◌, ◌==◌, Bool, true, false, List, [], ◌∷◌, ◌++◌, length, map, Option, None, Some, Ok, Err, refl, sym, ◌∙◌, ap, subst, arith, append_assoc, append-nil, decimal, pos}
+use Rattle.std.specs.Prelude.{All, Result, codes, flat_map, nat_le, nat_lt, ◌&&◌, option_and_then, slice_get, if◌then◌else◌}
+use Rattle.std.specs.Option.{ForSome, option_map_or}
 use Rattle.std.specs.List.{join_with_byte, list_all}
 use Rattle.std.specs.Str.{bytes_eq}
 use Rattle.std.proofs.lemmas.Bool.Decides.{nat_tests}
@@ -9,8 +9,10 @@ use Rattle.std.proofs.lemmas.Grind.{flat_map-append}
 use Rattle.std.proofs.lemmas.List.Folds.{list_all-append}
 use Rattle.std.proofs.lemmas.List.Splits.{join_with_byte-slice_split}
 use Rattle.std.proofs.lemmas.List.{length-append}
-use Rattle.std.proofs.lemmas.List.Elements.{All-nil, All-push}
+use Rattle.std.proofs.lemmas.List.Elements.{All-nil, All-push, All-weaker}
 use Rattle.memory_map.specs.Image.{Image}
+use Rattle.memory_map.specs.declared.registers.Regs.{Regs}
+use Rattle.address_regions.specs.declared.region.Region.TheVariants.{Stack}
 use Rattle.text_fields.specs.Decimal.{decimal_number}
 use Rattle.text_fields.specs.Fields.{no_more}
 use Rattle.text_fields.specs.Hex.{hex8}
@@ -23,18 +25,24 @@ use Rattle.text_fields.proofs.FieldTexts.{has_field, is_done}
 use Rattle.text_fields.proofs.Splitting.{fields_back, spaced}
 use Rattle.bounded_values.specs.declared.value.Bounded.{Bounded}
 use Rattle.bounded_values.specs.BoundedLaws.{bounded}
+use Rattle.partitioned_memory.specs.declared.area.Area.TheVariants.{In}
 use Rattle.partitioned_memory.specs.declared.fact.Fact.{Fact}
 use Rattle.partitioned_memory.specs.declared.fact.Dirty.{Dirty}
 use Rattle.partitioned_memory.specs.declared.fact.Counted.{Counted}
+use Rattle.partitioned_memory.specs.Areas.{interval_at}
 use Rattle.partitioned_memory.specs.Building.{ascend, is_block, is_sound_dirty, is_sound_fact}
 use Rattle.partitioned_memory.specs.Held.{count_before, dirty_before, fact_before}
+use Rattle.partitioned_memory.proofs.BuiltParts.{inside-of}
 use Rattle.abstract_state.specs.declared.truth.Truth.{Truth}
+use Rattle.abstract_state.specs.declared.flags.Truths.{Truths}
 use Rattle.abstract_state.specs.declared.note.Note.{Note}
 use Rattle.abstract_state.specs.declared.note.Note.TheVariants.{Register, Word}
 use Rattle.abstract_state.specs.declared.plain.StateData.{StateData}
-use Rattle.abstract_state.specs.State.{Known}
-use Rattle.abstract_state.specs.Building.{HasImageBytes, built, is_dirty_of, is_fact_of, is_well_note, plain_of}
-use Rattle.abstract_state.proofs.Building.{built-plain}
+use Rattle.abstract_state.specs.Notes.{IsWellNote, compared_with}
+use Rattle.abstract_state.specs.State.{IsWellState, Known}
+use Rattle.abstract_state.specs.Building.{HasImageBytes, built, is_dirty_of, is_fact_of, is_note, is_state, is_well_note, parts_of, plain_of, registers_of, truths_of}
+use Rattle.abstract_state.proofs.Building.{built-plain, built-well}
+use Rattle.abstract_state.proofs.Keeping.{no-note}
 use Rattle.table_check.specs.declared.table.Table.{Table}
 use Rattle.table_check.specs.declared.stage.Stage.{Stage}
 use Rattle.table_check.specs.declared.stage.Stage.TheVariants as stages
@@ -42,7 +50,7 @@ use Rattle.table_check.specs.Fields.{address_fields, block_fields, dirty_fields,
 use Rattle.table_check.specs.TextLaws.{IsStateOf, IsTableOf, TextsTellTables, are_made, is_above, is_made}
 use Rattle.table_check.specs.Reading.{Reading, block_step, closed, closed_by, count_fields, count_of, demand, dirty_step, end_step, fact_step, flags_step, follows_last, header_step, is_dirty_above, is_fact_above, is_over, k_step, mark_or_next_step, after_state, mark_step, next_step, no_state, note_step, nothing, or_fault, part_of, regs_step, row_step, state_step, step_after, table_grammar, table_read, table_step, told}
 use Rattle.table_check.specs.Text.{area_text, block_line, count_text, dirty_line, end_line, fact_line, flags_line, header_text, k_line, note_line, offset_text, open_line, region_text, regs_line, row_line, row_text, state_text, table_text, truth_code, value_text}
-use Rattle.table_check.proofs.FieldsTold.{address_told, block_list, block_told, dirty_list, dirty_told, fact_list, fact_made, fact_told, flags_told, k_told, mapped, note_list, note_told, regs_told, same_word}
+use Rattle.table_check.proofs.FieldsTold.{address_told, block_list, block_told, dirty_list, dirty_told, fact_list, fact_made, fact_told, flags_told, k_told, mapped, note_list, note_small, note_told, regs_told, same_word}
 
 -- ---- what is behind a test or something found
 
@@ -109,11 +117,16 @@ pub record KeepsAt (stage : Stage) (r : Reading) : Type 0 where
   pub marked : ascend is_above r.marked ≡ true
   pub rows : All (λ row. IsStateOf r.image row.1) r.rows
   pub made : are_made r.state ≡ true
+  pub noted : ForSome r.state.note IsWellNote
 
+-- what one more line leaves; it is said again where the rows can be counted, so in each text of fewer bytes than 2^64
 pub record Adds (stage : Stage) (r t : Reading) (line : List ℕ) : Type 0 where
   pub kept : KeepsAt t.stage t
-  pub text : said_at t.stage t ≡ said_at stage r ++ (line ++ newline)
+  pub text : length (said_at stage r) < 2 ^ 64 → said_at t.stage t ≡ said_at stage r ++ (line ++ newline)
   pub image : t.image ≡ r.image
+
+unnoted : {note : Option Note} → note ≡ None → ForSome note IsWellNote
+unnoted is = subst (λ o. ForSome o IsWellNote) (sym is) no-note
 
 flat_map-last : {X : Type 0} (f : X → List ℕ) (xs : List X) (x : X) → flat_map f (xs ++ x ∷ []) ≡ flat_map f xs ++ f x
 flat_map-last f xs x = flat_map-append f xs (x ∷ []) ∙ ap (λ l. flat_map f xs ++ l) (append-nil (f x))
@@ -181,8 +194,8 @@ header_by r t line kept h =
     let u : Reading = record r { stage = stages.Header } in
     let i : (bytes_eq line header_text ≡ true) × (Ok u ≡ Ok t) = if_ok (bytes_eq line header_text) HEADER (Ok u) t h in
     subst (λ (x : Reading). Adds stages.Start r x line) (same_ok u t i.1) (record {
-      kept = record { begun = kept.begun; k = tt; marked = kept.marked; rows = kept.rows; made = kept.made };
-      text = sym (ap (λ l. l ++ newline) (same_word line header_text i.0));
+      kept = record { begun = kept.begun; k = tt; marked = kept.marked; rows = kept.rows; made = kept.made; noted = kept.noted };
+      text = λ _. sym (ap (λ l. l ++ newline) (same_word line header_text i.0));
       image = refl;
     })
 
@@ -203,8 +216,8 @@ k_by r t line (word ∷ fs) kept parts h =
     let whole : line ++ newline ≡ k_line f.0 = ap (λ l. l ++ newline) (worded line word (codes "k") fs (decimal f.0 ∷ []) parts w.0 told_k.0) ∙ k_text f.0 in
     let u : Reading = record r { stage = stages.Marks; k = f.0 } in
     subst (λ (x : Reading). Adds stages.Header r x line) (same_ok u t f.2) (record {
-      kept = record { begun = (kept.begun.1, kept.begun.2); k = told_k.1; marked = kept.marked; rows = kept.rows; made = kept.made };
-      text = k_added f.0 r.marked r.rows (line ++ newline) kept.begun.0 kept.begun.1 whole;
+      kept = record { begun = (kept.begun.1, kept.begun.2); k = told_k.1; marked = kept.marked; rows = kept.rows; made = kept.made; noted = kept.noted };
+      text = λ _. k_added f.0 r.marked r.rows (line ++ newline) kept.begun.0 kept.begun.1 whole;
       image = refl;
     })
 
@@ -241,12 +254,12 @@ mark_by r t line at kept here whole h =
     let u : Reading = record r { marked = r.marked ++ at ∷ [] } in
     let i : (follows_last nat_lt r.marked at ≡ true) × (Ok u ≡ Ok t) = if_ok (follows_last nat_lt r.marked at) ORDER (Ok u) t h in
     let marks : ascend is_above (r.marked ++ at ∷ []) ≡ true = ascend_more is_above r.marked at kept.marked i.0 in
-    let own : KeepsAt stages.Marks u = record { begun = kept.begun; k = kept.k; marked = marks; rows = kept.rows; made = kept.made } in
+    let own : KeepsAt stages.Marks u = record { begun = kept.begun; k = kept.k; marked = marks; rows = kept.rows; made = kept.made; noted = kept.noted } in
     let P : Stage → Type 0 = λ s. KeepsAt s u in
     let said_u : said_at r.stage u ≡ front u = ap (λ s. said_at s u) here in
     subst (λ (x : Reading). Adds stages.Marks r x line) (same_ok u t i.1) (record {
       kept = subst P (sym here) own;
-      text = said_u ∙ mark_added (header_text ++ newline ++ k_line r.k) r.marked r.rows at (line ++ newline) kept.begun.0 whole;
+      text = λ _. said_u ∙ mark_added (header_text ++ newline ++ k_line r.k) r.marked r.rows at (line ++ newline) kept.begun.0 whole;
       image = refl;
     })
 
@@ -262,6 +275,32 @@ pub record IsWhole (stage : Stage) (r u : Reading) : Type 0 where
   pub rows : All (λ row. IsStateOf u.image row.1) u.rows
   pub made : are_made u.state ≡ true
 
+-- a text has at least as many bytes as rows
+lines_few : {X : Type 0} (f : X → List ℕ) → ((x : X) → 0 < length (f x)) → (xs : List X) → length xs ≤ length (flat_map f xs)
+lines_few f some [] = omega arith
+lines_few f some (x ∷ xs) =
+    let here = some x in
+    let others = lines_few f some xs in
+    let whole : length (f x ++ flat_map f xs) ≡ length (f x) + length (flat_map f xs) = length-append (f x) (flat_map f xs) in
+    omega arith
+
+some_row : (row : ℕ × Known Bounded) → 0 < length (row_text row)
+some_row row =
+    let whole : length (row_line row.0 ++ state_text (plain_of row.1)) ≡ length (row_line row.0) + length (state_text (plain_of row.1)) = length-append (row_line row.0) (state_text (plain_of row.1)) in
+    let head : 0 < length (row_line row.0) = omega arith in
+    omega arith
+
+few_rows : (r : Reading) → length (front r) < 2 ^ 64 → length r.rows < 2 ^ 64
+few_rows r short =
+    let before : List ℕ = header_text ++ newline ++ k_line r.k ++ flat_map open_line r.marked in
+    let whole : length (before ++ flat_map row_text r.rows) ≡ length before + length (flat_map row_text r.rows) = length-append before (flat_map row_text r.rows) in
+    let rows : length r.rows ≤ length (flat_map row_text r.rows) = lines_few row_text some_row r.rows in
+    let all : length (before ++ flat_map row_text r.rows) < 2 ^ 64 = short in
+    omega arith
+
+few_whole : (stage : Stage) (r u : Reading) → IsWhole stage r u → length (said_at stage r) < 2 ^ 64 → length u.rows < 2 ^ 64
+few_whole stage r u w short = few_rows u (subst (λ l. length l < 2 ^ 64) (sym w.text) short)
+
 row_by : (stage : Stage) (r u t : Reading) (line word : List ℕ) (fs : List (List ℕ)) → IsWhole stage r u → fields line ≡ word ∷ fs → bytes_eq word (codes "row") ≡ true → row_step u fs ≡ Ok t → Adds stage r t line
 row_by stage r u t line word fs w parts is h =
     let go : ℕ → Result Reading ℕ = λ at. Ok (record u { stage = stages.Row; at = at }) in
@@ -269,10 +308,13 @@ row_by stage r u t line word fs w parts is h =
     let whole : line ++ newline ≡ row_line f.0 = ap (λ l. l ++ newline) (worded line word (codes "row") fs (hex8 f.0 ∷ []) parts is (address_told fs f.0 f.1)) ∙ row_head f.0 in
     let v : Reading = record u { stage = stages.Row; at = f.0 } in
     subst (λ (x : Reading). Adds stage r x line) (same_ok v t f.2) (record {
-      kept = record { begun = w.clear; k = w.k; marked = w.marked; rows = w.rows; made = w.made };
-      text = ap (λ l. l ++ row_line f.0) w.text ∙ ap (λ l. said_at stage r ++ l) (sym whole);
+      kept = record { begun = w.clear; k = w.k; marked = w.marked; rows = w.rows; made = w.made; noted = unnoted w.clear.0 };
+      text = λ _. ap (λ l. l ++ row_line f.0) w.text ∙ ap (λ l. said_at stage r ++ l) (sym whole);
       image = w.image;
     })
+
+below : (a b : ℕ) → nat_lt a b ≡ true → a < b
+below a b e = grind (arith, nat_tests)
 
 equal : (a b : ℕ) → (a == b) ≡ true → a ≡ b
 equal a b e = grind (arith, nat_tests)
@@ -290,31 +332,33 @@ count_told r fs few h =
     let d = is_done f.value true f.others f.after in
     f.begins ∙ ap (λ gs. f.field ∷ gs) d.none ∙ ap (λ l. l ∷ []) (count_is f.field (length r.rows) few (f.gives ∙ ap Some d.same))
 
-end_by : (stage : Stage) (r u t : Reading) (line word : List ℕ) (fs : List (List ℕ)) → IsWhole stage r u → length u.rows < 2 ^ 64 → fields line ≡ word ∷ fs → bytes_eq word (codes "end") ≡ true → end_step u fs ≡ Ok t → Adds stage r t line
+end_by : (stage : Stage) (r u t : Reading) (line word : List ℕ) (fs : List (List ℕ)) → IsWhole stage r u → fields line ≡ word ∷ fs → bytes_eq word (codes "end") ≡ true → end_step u fs ≡ Ok t → Adds stage r t line
 unfolding end_step
-end_by stage r u t line word fs w few parts is h =
+end_by stage r u t line word fs w parts is h =
     let v : Reading = record u { stage = stages.Ended } in
     let go : Bool → Result Reading ℕ = λ same. demand same COUNT (Ok v) in
     let f : (same : Bool) × (count_fields u fs ≡ Some same) × (go same ≡ Ok t) = found_ok FIELD (count_fields u fs) go t h in
     let i : (f.0 ≡ true) × (Ok v ≡ Ok t) = if_ok f.0 COUNT (Ok v) t f.2 in
-    let counted : fs ≡ decimal (length u.rows) ∷ [] = count_told u fs few (f.1 ∙ ap Some i.0) in
-    let whole : line ++ newline ≡ end_line (length u.rows) = ap (λ l. l ++ newline) (worded line word (codes "end") fs (decimal (length u.rows) ∷ []) parts is counted) ∙ end_text (length u.rows) in
+    let counted : length u.rows < 2 ^ 64 → fs ≡ decimal (length u.rows) ∷ [] = λ few. count_told u fs few (f.1 ∙ ap Some i.0) in
+    let whole : length u.rows < 2 ^ 64 → line ++ newline ≡ end_line (length u.rows) =
+    λ few. ap (λ l. l ++ newline) (worded line word (codes "end") fs (decimal (length u.rows) ∷ []) parts is (counted few)) ∙ end_text (length u.rows)
+    in
     subst (λ (x : Reading). Adds stage r x line) (same_ok v t i.1) (record {
-      kept = record { begun = tt; k = w.k; marked = w.marked; rows = w.rows; made = w.made };
-      text = ap (λ l. l ++ end_line (length u.rows)) w.text ∙ ap (λ l. said_at stage r ++ l) (sym whole);
+      kept = record { begun = tt; k = w.k; marked = w.marked; rows = w.rows; made = w.made; noted = unnoted w.clear.0 };
+      text = λ short. ap (λ l. l ++ end_line (length u.rows)) w.text ∙ ap (λ l. said_at stage r ++ l) (sym (whole (few_whole stage r u w short)));
       image = w.image;
     })
 
-next_by : (stage : Stage) (r u t : Reading) (line word : List ℕ) (fs : List (List ℕ)) (row end : Bool) → IsWhole stage r u → length u.rows < 2 ^ 64 → fields line ≡ word ∷ fs
+next_by : (stage : Stage) (r u t : Reading) (line word : List ℕ) (fs : List (List ℕ)) (row end : Bool) → IsWhole stage r u → fields line ≡ word ∷ fs
     → bytes_eq word (codes "row") ≡ row → bytes_eq word (codes "end") ≡ end
     → (if row then row_step u fs else if end then end_step u fs else Err WORD) ≡ Ok t → Adds stage r t line
-next_by stage r u t line word fs true end w few parts a b h = row_by stage r u t line word fs w parts a h
-next_by stage r u t line word fs false true w few parts a b h = end_by stage r u t line word fs w few parts b h
-next_by stage r u t line word fs false false w few parts a b h = cc
+next_by stage r u t line word fs true end w parts a b h = row_by stage r u t line word fs w parts a h
+next_by stage r u t line word fs false true w parts a b h = end_by stage r u t line word fs w parts b h
+next_by stage r u t line word fs false false w parts a b h = cc
 
-after_whole : (stage : Stage) (r u t : Reading) (line word : List ℕ) (fs : List (List ℕ)) → IsWhole stage r u → length u.rows < 2 ^ 64 → fields line ≡ word ∷ fs → next_step u word fs ≡ Ok t → Adds stage r t line
+after_whole : (stage : Stage) (r u t : Reading) (line word : List ℕ) (fs : List (List ℕ)) → IsWhole stage r u → fields line ≡ word ∷ fs → next_step u word fs ≡ Ok t → Adds stage r t line
 unfolding next_step
-after_whole stage r u t line word fs w few parts h = next_by stage r u t line word fs (bytes_eq word (codes "row")) (bytes_eq word (codes "end")) w few parts refl refl h
+after_whole stage r u t line word fs w parts h = next_by stage r u t line word fs (bytes_eq word (codes "row")) (bytes_eq word (codes "end")) w parts refl refl h
 
 regs_by : (r t : Reading) (line : List ℕ) (fs : List (List ℕ)) → KeepsAt stages.Row r → fields line ≡ fs → regs_step r fs ≡ Ok t → Adds stages.Row r t line
 regs_by r t line [] kept parts h = cc
@@ -333,8 +377,9 @@ regs_by r t line (word ∷ fs) kept parts h =
         marked = kept.marked;
         rows = kept.rows;
         made = both_true (list_all is_made f.0) (list_all (λ (x : Fact Bounded). is_made x.value) r.state.facts) values.1 others.1;
+        noted = kept.noted;
       };
-      text = ap (λ l. (front r ++ row_line r.at) ++ l) (sym whole);
+      text = λ _. ap (λ l. (front r ++ row_line r.at) ++ l) (sym whole);
       image = refl;
     })
 
@@ -358,8 +403,8 @@ flags_by r t line (word ∷ fs) kept parts h =
     let u : Reading = record r { stage = stages.Flags; state = record (r.state) { flags = f.0 } } in
     let s : StateData Bounded = r.state in
     subst (λ (x : Reading). Adds stages.Regs r x line) (same_ok u t f.2) (record {
-      kept = record { begun = kept.begun; k = kept.k; marked = kept.marked; rows = kept.rows; made = kept.made };
-      text = flags_added (front r ++ row_line r.at) (regs_line s.regs) f.0 s.note s.facts s.dirty s.blocks (line ++ newline) kept.begun.0 kept.begun.1 kept.begun.2 kept.begun.3 whole;
+      kept = record { begun = kept.begun; k = kept.k; marked = kept.marked; rows = kept.rows; made = kept.made; noted = kept.noted };
+      text = λ _. flags_added (front r ++ row_line r.at) (regs_line s.regs) f.0 s.note s.facts s.dirty s.blocks (line ++ newline) kept.begun.0 kept.begun.1 kept.begun.2 kept.begun.3 whole;
       image = refl;
     })
 
@@ -375,6 +420,7 @@ pub record IsPart (stage : Stage) (r : Reading) : Type 0 where
   pub marked : ascend is_above r.marked ≡ true
   pub rows : All (λ row. IsStateOf r.image row.1) r.rows
   pub made : are_made r.state ≡ true
+  pub noted : ForSome r.state.note IsWellNote
 
 note_added : (base regs flags : List ℕ) (said : Option Note) (n : Note) (facts : List (Fact Bounded)) (dirty : List Dirty) (blocks : List Counted) (line : List ℕ)
     → said ≡ None → facts ≡ [] → dirty ≡ [] → blocks ≡ [] → line ≡ note_line (Some n)
@@ -406,19 +452,26 @@ made_more s f made own =
     in
     both_true (list_all is_made s.regs) (list_all is_value (s.facts ++ f ∷ [])) h.0 facts
 
+note_of : (n : Note) → is_well_note n ≡ true → compared_with n < 2 ^ 32 → IsWellNote n
+note_of (Register r c) e small = (below r 8 e, small)
+note_of (Word o c) e small = (inside-of (interval_at (In Stack) o (pos 4)) e, small)
+
+now_noted : (n : Note) → IsWellNote n → ForSome (Some n) IsWellNote
+now_noted n well m e = let same : n ≡ m = cc in subst IsWellNote same well
+
 module _ (stage : Stage) (r t : Reading) (line : List ℕ) (part : IsPart stage r) where
   adds : (u : Reading) → ◌≡◌ {A = Result Reading ℕ} (Ok u) (Ok t) → KeepsAt u.stage u → said_at u.stage u ≡ said_state r ++ (line ++ newline) → u.image ≡ r.image → Adds stage r t line
   adds u h kept text image =
-      subst (λ (x : Reading). Adds stage r x line) (same_ok u t h) (record { kept = kept; text = text ∙ ap (λ l. l ++ (line ++ newline)) (sym part.tells); image = image })
+      subst (λ (x : Reading). Adds stage r x line) (same_ok u t h) (record { kept = kept; text = λ _. text ∙ ap (λ l. l ++ (line ++ newline)) (sym part.tells); image = image })
 
-  note_by : (n : Note) → nat_lt (part_of stage) 1 ≡ true → line ++ newline ≡ note_line (Some n) → note_step r n ≡ Ok t → Adds stage r t line
+  note_by : (n : Note) → nat_lt (part_of stage) 1 ≡ true → compared_with n < 2 ^ 32 → line ++ newline ≡ note_line (Some n) → note_step r n ≡ Ok t → Adds stage r t line
   unfolding note_step state_text
-  note_by n first whole h =
+  note_by n first small whole h =
       let s : StateData Bounded = r.state in
       let u : Reading = record r { stage = stages.Note; state = record (r.state) { note = Some n } } in
       let i : (is_well_note n ≡ true) × (Ok u ≡ Ok t) = if_ok (is_well_note n) CONTENT (Ok u) t h in
       let c = part.clear first in
-      adds u i.1 (record { begun = (c.1, c.2, c.3); k = part.k; marked = part.marked; rows = part.rows; made = part.made })
+      adds u i.1 (record { begun = (c.1, c.2, c.3); k = part.k; marked = part.marked; rows = part.rows; made = part.made; noted = now_noted n (note_of n i.0 small) })
       (note_added (front r ++ row_line r.at) (regs_line s.regs) (flags_line s.flags) s.note n s.facts s.dirty s.blocks (line ++ newline) c.0 c.1 c.2 c.3 whole) refl
 
   fact_by : (f : Fact Bounded) → nat_le (part_of stage) 2 ≡ true → is_made f.value ≡ true → line ++ newline ≡ fact_line f → fact_step r f ≡ Ok t → Adds stage r t line
@@ -430,7 +483,7 @@ module _ (stage : Stage) (r t : Reading) (line : List ℕ) (part : IsPart stage 
       let i : (follows_last is_fact_above r.state.facts f ≡ true) × (demand content CONTENT (Ok u) ≡ Ok t) = if_ok (follows_last is_fact_above r.state.facts f) ORDER (demand content CONTENT (Ok u)) t h in
       let j : (content ≡ true) × (Ok u ≡ Ok t) = if_ok content CONTENT (Ok u) t i.1 in
       let c = part.undirtied on in
-      adds u j.1 (record { begun = c; k = part.k; marked = part.marked; rows = part.rows; made = made_more s f part.made made })
+      adds u j.1 (record { begun = c; k = part.k; marked = part.marked; rows = part.rows; made = made_more s f part.made made; noted = part.noted })
       (fact_added (front r ++ row_line r.at) (regs_line s.regs ++ flags_line s.flags ++ note_line s.note) s.facts f s.dirty s.blocks (line ++ newline) c.0 c.1 whole) refl
 
   dirty_by : (d : Dirty) → nat_le (part_of stage) 3 ≡ true → line ++ newline ≡ dirty_line d → dirty_step r d ≡ Ok t → Adds stage r t line
@@ -441,7 +494,7 @@ module _ (stage : Stage) (r t : Reading) (line : List ℕ) (part : IsPart stage 
       let content : Bool = is_sound_dirty d && (is_dirty_of r.image d && follows_last dirty_before r.state.dirty d) in
       let i : (follows_last is_dirty_above r.state.dirty d ≡ true) × (demand content CONTENT (Ok u) ≡ Ok t) = if_ok (follows_last is_dirty_above r.state.dirty d) ORDER (demand content CONTENT (Ok u)) t h in
       let j : (content ≡ true) × (Ok u ≡ Ok t) = if_ok content CONTENT (Ok u) t i.1 in
-      adds u j.1 (record { begun = part.uncounted on; k = part.k; marked = part.marked; rows = part.rows; made = part.made })
+      adds u j.1 (record { begun = part.uncounted on; k = part.k; marked = part.marked; rows = part.rows; made = part.made; noted = part.noted })
       (dirty_added (front r ++ row_line r.at) (regs_line s.regs ++ flags_line s.flags ++ note_line s.note ++ flat_map fact_line s.facts) s.dirty d s.blocks (line ++ newline) (part.uncounted on) whole) refl
 
   block_by : (c : Counted) → line ++ newline ≡ block_line c → block_step r c ≡ Ok t → Adds stage r t line
@@ -451,13 +504,13 @@ module _ (stage : Stage) (r t : Reading) (line : List ℕ) (part : IsPart stage 
       let u : Reading = record r { stage = stages.Blocks; state = record (r.state) { blocks = r.state.blocks ++ c ∷ [] } } in
       let i : (follows_last count_before r.state.blocks c ≡ true) × (demand (is_block c) CONTENT (Ok u) ≡ Ok t) = if_ok (follows_last count_before r.state.blocks c) ORDER (demand (is_block c) CONTENT (Ok u)) t h in
       let j : (is_block c ≡ true) × (Ok u ≡ Ok t) = if_ok (is_block c) CONTENT (Ok u) t i.1 in
-      adds u j.1 (record { begun = tt; k = part.k; marked = part.marked; rows = part.rows; made = part.made })
+      adds u j.1 (record { begun = tt; k = part.k; marked = part.marked; rows = part.rows; made = part.made; noted = part.noted })
       (block_added (front r ++ row_line r.at) (regs_line s.regs ++ flags_line s.flags ++ note_line s.note ++ flat_map fact_line s.facts ++ flat_map dirty_line s.dirty) s.blocks c (line ++ newline) whole) refl
 
 part_at : (stage : Stage) (r : Reading) → nat_le (part_of stage) 4 ≡ true → KeepsAt stage r → (said_at stage r ≡ said_state r) → (is_k r.k ≡ true)
     → (nat_lt (part_of stage) 1 ≡ true → IsClear r.state) → (nat_le (part_of stage) 2 ≡ true → (r.state.dirty ≡ []) × (r.state.blocks ≡ [])) → (nat_le (part_of stage) 3 ≡ true → r.state.blocks ≡ []) → IsPart stage r
 part_at stage r four kept tells k clear undirtied uncounted =
-    record { clear = clear; undirtied = undirtied; uncounted = uncounted; tells = tells; k = k; marked = kept.marked; rows = kept.rows; made = kept.made }
+    record { clear = clear; undirtied = undirtied; uncounted = uncounted; tells = tells; k = k; marked = kept.marked; rows = kept.rows; made = kept.made; noted = kept.noted }
 
 never : {A : Type 0} → false ≡ true → A
 never e = absurd (cc)
@@ -502,6 +555,31 @@ closed_by-ok : (r u : Reading) (o : Option (Known Bounded)) → built bounded r.
 closed_by-ok r u None e h = cc
 closed_by-ok r u (Some s) e h = (s, e, same_ok _ u h)
 
+-- a state that is built of lists with a well note is well
+module _ (image : Image) (p : StateData Bounded) (s : Known Bounded) (noted : ForSome p.note IsWellNote) where
+  well_by : (g : Regs Bounded) (t : Truths) (passed : Bool) → registers_of p.regs ≡ Some g → (is_state bounded image p && is_note p.note) ≡ passed
+      → ◌≡◌ {A = Option (Known Bounded)} (if passed then Some (record { regs = g; flags = t; note = p.note; parts = parts_of p }) else None) (Some s) → IsWellState bounded s
+  well_by g t true r e h =
+      let made : Known Bounded = record { regs = g; flags = t; note = p.note; parts = parts_of p } in
+      let same : made ≡ s = cc in
+      subst (IsWellState bounded) same (built-well bounded image p g t (both (is_state bounded image p) (is_note p.note) e).0 r noted)
+  well_by g t false r e h = cc
+
+  flags_well : (g : Regs Bounded) (t : Option Truths) → registers_of p.regs ≡ Some g
+      → option_and_then (λ (flags : Truths). if is_state bounded image p && is_note p.note then Some (let made : Known Bounded = record { regs = g; flags = flags; note = p.note; parts = parts_of p } in made) else None) t ≡ Some s → IsWellState bounded s
+  flags_well g None r h = cc
+  flags_well g (Some t) r h = well_by g t (is_state bounded image p && is_note p.note) r refl h
+
+  registers_well : (g : Option (Regs Bounded)) → registers_of p.regs ≡ g
+      → option_and_then (λ (regs : Regs Bounded). option_and_then (λ (flags : Truths). if is_state bounded image p && is_note p.note then Some (let made : Known Bounded = record { regs = regs; flags = flags; note = p.note; parts = parts_of p } in made) else None) (truths_of p.flags)) g ≡ Some s
+      → IsWellState bounded s
+  registers_well None r h = cc
+  registers_well (Some g) r h = flags_well g (truths_of p.flags) r h
+
+  built_well : built bounded image p ≡ Some s → IsWellState bounded s
+  unfolding built
+  built_well h = registers_well (registers_of p.regs) refl h
+
 whole_of : (stage : Stage) (r u : Reading) → IsPart stage r → closed r ≡ Ok u → IsWhole stage r u
 unfolding closed
 whole_of stage r u part h =
@@ -513,53 +591,24 @@ whole_of stage r u part h =
       clear = (refl, refl, refl, refl);
       k = part.k;
       marked = part.marked;
-      rows = All-push (λ (row : ℕ × Known Bounded). IsStateOf r.image row.1) r.rows (r.at, c.0) part.rows (record { bytes = b.1; made = ap are_made b.0 ∙ part.made });
+      rows = All-push (λ (row : ℕ × Known Bounded). IsStateOf r.image row.1) r.rows (r.at, c.0) part.rows (record { well = built_well r.image r.state c.0 part.noted c.1; bytes = b.1; made = ap are_made b.0 ∙ part.made });
       made = refl;
     })
 
--- ---- a text has at least as many bytes as rows
-
-lines_few : {X : Type 0} (f : X → List ℕ) → ((x : X) → 0 < length (f x)) → (xs : List X) → length xs ≤ length (flat_map f xs)
-lines_few f some [] = omega arith
-lines_few f some (x ∷ xs) =
-    let here = some x in
-    let others = lines_few f some xs in
-    let whole : length (f x ++ flat_map f xs) ≡ length (f x) + length (flat_map f xs) = length-append (f x) (flat_map f xs) in
-    omega arith
-
-some_row : (row : ℕ × Known Bounded) → 0 < length (row_text row)
-some_row row =
-    let whole : length (row_line row.0 ++ state_text (plain_of row.1)) ≡ length (row_line row.0) + length (state_text (plain_of row.1)) = length-append (row_line row.0) (state_text (plain_of row.1)) in
-    let head : 0 < length (row_line row.0) = omega arith in
-    omega arith
-
-few_rows : (r : Reading) → length (front r) < 2 ^ 64 → length r.rows < 2 ^ 64
-few_rows r short =
-    let before : List ℕ = header_text ++ newline ++ k_line r.k ++ flat_map open_line r.marked in
-    let whole : length (before ++ flat_map row_text r.rows) ≡ length before + length (flat_map row_text r.rows) = length-append before (flat_map row_text r.rows) in
-    let rows : length r.rows ≤ length (flat_map row_text r.rows) = lines_few row_text some_row r.rows in
-    let all : length (before ++ flat_map row_text r.rows) < 2 ^ 64 = short in
-    omega arith
-
-few_whole : (stage : Stage) (r u : Reading) → IsWhole stage r u → length (said_at stage r) < 2 ^ 64 → length u.rows < 2 ^ 64
-few_whole stage r u w short = few_rows u (subst (λ l. length l < 2 ^ 64) (sym w.text) short)
-
 -- ---- all lines
 
-after_closed : (stage : Stage) (r t : Reading) (line word : List ℕ) (fs : List (List ℕ)) (made : Result Reading ℕ) → IsPart stage r → length (said_at stage r) < 2 ^ 64 → closed r ≡ made → fields line ≡ word ∷ fs
+after_closed : (stage : Stage) (r t : Reading) (line word : List ℕ) (fs : List (List ℕ)) (made : Result Reading ℕ) → IsPart stage r → closed r ≡ made → fields line ≡ word ∷ fs
     → after_state made word fs ≡ Ok t → Adds stage r t line
-after_closed stage r t line word fs (Err kind) part short e parts h = cc
-after_closed stage r t line word fs (Ok u) part short e parts h =
-    let w = whole_of stage r u part e in
-    after_whole stage r u t line word fs w (few_whole stage r u w short) parts h
+after_closed stage r t line word fs (Err kind) part e parts h = cc
+after_closed stage r t line word fs (Ok u) part e parts h = after_whole stage r u t line word fs (whole_of stage r u part e) parts h
 
-module _ (stage : Stage) (r t : Reading) (line : List ℕ) (part : IsPart stage r) (short : length (said_at stage r) < 2 ^ 64) where
+module _ (stage : Stage) (r t : Reading) (line : List ℕ) (part : IsPart stage r) where
   count_by : (word : List ℕ) (fs : List (List ℕ)) (block : Bool) → fields line ≡ word ∷ fs → bytes_eq word (codes "block") ≡ block
       → (if block then or_fault FIELD (block_fields fs) (block_step r) else after_state (closed r) word fs) ≡ Ok t → Adds stage r t line
   count_by word fs true parts d h =
       let f : (x : Counted) × (block_fields fs ≡ Some x) × (block_step r x ≡ Ok t) = found_ok FIELD (block_fields fs) (block_step r) t h in
       block_by stage r t line part f.0 (ap (λ l. l ++ newline) (worded line word (codes "block") fs (block_list f.0) parts d (block_told fs f.0 f.1)) ∙ block_text f.0) f.2
-  count_by word fs false parts d h = after_closed stage r t line word fs (closed r) part short refl parts h
+  count_by word fs false parts d h = after_closed stage r t line word fs (closed r) part refl parts h
 
   last_by : (word : List ℕ) (fs : List (List ℕ)) (dirty block third : Bool) → fields line ≡ word ∷ fs
       → bytes_eq word (codes "dirty") ≡ dirty → bytes_eq word (codes "block") ≡ block → nat_le (part_of stage) 3 ≡ third
@@ -598,55 +647,55 @@ module _ (stage : Stage) (r t : Reading) (line : List ℕ) (part : IsPart stage 
       → Adds stage r t line
   state_by word fs true fact dirty block true second third parts a b c d p q s h =
       let f : (n : Note) × (note_fields fs ≡ Some n) × (note_step r n ≡ Ok t) = found_ok FIELD (note_fields fs) (note_step r) t h in
-      note_by stage r t line part f.0 p (ap (λ l. l ++ newline) (worded line word (codes "note") fs (note_list f.0) parts a (note_told fs f.0 f.1)) ∙ note_text f.0) f.2
+      note_by stage r t line part f.0 p (note_small fs f.0 f.1) (ap (λ l. l ++ newline) (worded line word (codes "note") fs (note_list f.0) parts a (note_told fs f.0 f.1)) ∙ note_text f.0) f.2
   state_by word fs true fact dirty block false second third parts a b c d p q s h = other_by word fs fact dirty block second third parts b c d q s h
   state_by word fs false fact dirty block first second third parts a b c d p q s h = other_by word fs fact dirty block second third parts b c d q s h
 
-state_told : (stage : Stage) (r t : Reading) (line : List ℕ) (fs : List (List ℕ)) → r.stage ≡ stage → IsPart stage r → length (said_at stage r) < 2 ^ 64 → fields line ≡ fs → state_step r fs ≡ Ok t → Adds stage r t line
+state_told : (stage : Stage) (r t : Reading) (line : List ℕ) (fs : List (List ℕ)) → r.stage ≡ stage → IsPart stage r → fields line ≡ fs → state_step r fs ≡ Ok t → Adds stage r t line
 unfolding state_step
-state_told stage r t line [] here part short parts h = cc
-state_told stage r t line (word ∷ fs) here part short parts h =
+state_told stage r t line [] here part parts h = cc
+state_told stage r t line (word ∷ fs) here part parts h =
     let P : Stage → Type 0 = λ s.
     (if bytes_eq word (codes "note") && nat_lt (part_of s) 1 then or_fault FIELD (note_fields fs) (note_step r)
     else if bytes_eq word (codes "fact") && nat_le (part_of s) 2 then or_fault FIELD (fact_fields fs) (fact_step r)
     else if bytes_eq word (codes "dirty") && nat_le (part_of s) 3 then or_fault FIELD (dirty_fields fs) (dirty_step r)
     else if bytes_eq word (codes "block") then or_fault FIELD (block_fields fs) (block_step r)
     else after_state (closed r) word fs) ≡ Ok t in
-    state_by stage r t line part short word fs (bytes_eq word (codes "note")) (bytes_eq word (codes "fact")) (bytes_eq word (codes "dirty")) (bytes_eq word (codes "block"))
+    state_by stage r t line part word fs (bytes_eq word (codes "note")) (bytes_eq word (codes "fact")) (bytes_eq word (codes "dirty")) (bytes_eq word (codes "block"))
     (nat_lt (part_of stage) 1) (nat_le (part_of stage) 2) (nat_le (part_of stage) 3) parts refl refl refl refl refl refl refl (subst P here h)
 
-mark_or_next : (r t : Reading) (line word : List ℕ) (fs : List (List ℕ)) (mark : Bool) → r.stage ≡ stages.Marks → KeepsAt stages.Marks r → length (front r) < 2 ^ 64 → fields line ≡ word ∷ fs → bytes_eq word (codes "open") ≡ mark
+mark_or_next : (r t : Reading) (line word : List ℕ) (fs : List (List ℕ)) (mark : Bool) → r.stage ≡ stages.Marks → KeepsAt stages.Marks r → fields line ≡ word ∷ fs → bytes_eq word (codes "open") ≡ mark
     → (if mark then or_fault FIELD (address_fields fs) (mark_step r) else next_step r word fs) ≡ Ok t → Adds stages.Marks r t line
-mark_or_next r t line word fs true here kept short parts e h =
+mark_or_next r t line word fs true here kept parts e h =
     let f : (at : ℕ) × (address_fields fs ≡ Some at) × (mark_step r at ≡ Ok t) = found_ok FIELD (address_fields fs) (mark_step r) t h in
     mark_by r t line f.0 kept here (ap (λ l. l ++ newline) (worded line word (codes "open") fs (hex8 f.0 ∷ []) parts e (address_told fs f.0 f.1)) ∙ open_text f.0) f.2
-mark_or_next r t line word fs false here kept short parts e h =
+mark_or_next r t line word fs false here kept parts e h =
     let w : IsWhole stages.Marks r r = record { text = refl; image = refl; clear = kept.begun.1; k = kept.k; marked = kept.marked; rows = kept.rows; made = kept.made } in
-    after_whole stages.Marks r r t line word fs w (few_rows r short) parts h
+    after_whole stages.Marks r r t line word fs w parts h
 
-marks_told : (r t : Reading) (line : List ℕ) (fs : List (List ℕ)) → r.stage ≡ stages.Marks → KeepsAt stages.Marks r → length (front r) < 2 ^ 64 → fields line ≡ fs → mark_or_next_step r fs ≡ Ok t → Adds stages.Marks r t line
+marks_told : (r t : Reading) (line : List ℕ) (fs : List (List ℕ)) → r.stage ≡ stages.Marks → KeepsAt stages.Marks r → fields line ≡ fs → mark_or_next_step r fs ≡ Ok t → Adds stages.Marks r t line
 unfolding mark_or_next_step
-marks_told r t line [] here kept short parts h = cc
-marks_told r t line (word ∷ fs) here kept short parts h = mark_or_next r t line word fs (bytes_eq word (codes "open")) here kept short parts refl h
+marks_told r t line [] here kept parts h = cc
+marks_told r t line (word ∷ fs) here kept parts h = mark_or_next r t line word fs (bytes_eq word (codes "open")) here kept parts refl h
 
-step_by : (stage : Stage) (r t : Reading) (line : List ℕ) → r.stage ≡ stage → KeepsAt stage r → length (said_at stage r) < 2 ^ 64 → step_after stage r line ≡ Ok t → Adds stage r t line
-step_by stages.Start r t line here kept short h = header_by r t line kept h
-step_by stages.Header r t line here kept short h = k_by r t line (fields line) kept refl h
-step_by stages.Marks r t line here kept short h = marks_told r t line (fields line) here kept short refl h
-step_by stages.Row r t line here kept short h = regs_by r t line (fields line) kept refl h
-step_by stages.Regs r t line here kept short h = flags_by r t line (fields line) kept refl h
-step_by stages.Flags r t line here kept short h = state_told stages.Flags r t line (fields line) here (part-flags r kept) short refl h
-step_by stages.Note r t line here kept short h = state_told stages.Note r t line (fields line) here (part-note r kept) short refl h
-step_by stages.Facts r t line here kept short h = state_told stages.Facts r t line (fields line) here (part-facts r kept) short refl h
-step_by stages.Dirty r t line here kept short h = state_told stages.Dirty r t line (fields line) here (part-dirty r kept) short refl h
-step_by stages.Blocks r t line here kept short h = state_told stages.Blocks r t line (fields line) here (part-blocks r kept) short refl h
-step_by stages.Ended r t line here kept short h = cc
+step_by : (stage : Stage) (r t : Reading) (line : List ℕ) → r.stage ≡ stage → KeepsAt stage r → step_after stage r line ≡ Ok t → Adds stage r t line
+step_by stages.Start r t line here kept h = header_by r t line kept h
+step_by stages.Header r t line here kept h = k_by r t line (fields line) kept refl h
+step_by stages.Marks r t line here kept h = marks_told r t line (fields line) here kept refl h
+step_by stages.Row r t line here kept h = regs_by r t line (fields line) kept refl h
+step_by stages.Regs r t line here kept h = flags_by r t line (fields line) kept refl h
+step_by stages.Flags r t line here kept h = state_told stages.Flags r t line (fields line) here (part-flags r kept) refl h
+step_by stages.Note r t line here kept h = state_told stages.Note r t line (fields line) here (part-note r kept) refl h
+step_by stages.Facts r t line here kept h = state_told stages.Facts r t line (fields line) here (part-facts r kept) refl h
+step_by stages.Dirty r t line here kept h = state_told stages.Dirty r t line (fields line) here (part-dirty r kept) refl h
+step_by stages.Blocks r t line here kept h = state_told stages.Blocks r t line (fields line) here (part-blocks r kept) refl h
+step_by stages.Ended r t line here kept h = cc
 
 abbrev pub said : Reading → List ℕ
 said r = said_at r.stage r
 
 pub record Told (s t : Reading) (added : List ℕ) : Type 0 where
-  pub text : said t ≡ said s ++ added
+  pub text : length (said s ++ added) < 2 ^ 64 → said t ≡ said s ++ added
   pub kept : KeepsAt t.stage t
   pub over : is_over t.stage ≡ true
   pub image : t.image ≡ s.image
@@ -655,37 +704,40 @@ last_line : (n : ℕ) (s t : Reading) (rest : List ℕ) (ended none : Bool) → 
     → ◌≡◌ {A = Result Reading LineFault} (if ended && none then Ok s else Err (end_fault n)) (Ok t) → Told s t rest
 last_line n s t [] true true over e kept h =
     let same : s ≡ t = cc in
-    subst (λ (u : Reading). Told s u []) same (record { text = sym (append-nil (said s)); kept = kept; over = over; image = refl })
+    subst (λ (u : Reading). Told s u []) same (record { text = λ _. sym (append-nil (said s)); kept = kept; over = over; image = refl })
 last_line n s t (b ∷ rest) ended true over e kept h = let none : length (b ∷ rest) ≡ 0 = grind (arith, nat_tests) in absurd (omega (arith, none))
 last_line n s t rest true false over e kept h = cc
 last_line n s t rest false none over e kept h = cc
 
-whole_line : (n : ℕ) (s t : Reading) (line next : List ℕ) (others : List (List ℕ)) (ended : Bool) (made : Result Reading ℕ) → KeepsAt s.stage s
-    → length (said s ++ join_with_byte 10 (line ∷ next ∷ others)) < 2 ^ 64 → table_step s line ≡ made
-    → ((n : ℕ) (u : Reading) → KeepsAt u.stage u → length (said u ++ join_with_byte 10 (next ∷ others)) < 2 ^ 64 → read_from table_grammar n u (next ∷ others) ≡ Ok t → Told u t (join_with_byte 10 (next ∷ others)))
+-- a line and the rest behind it
+joined : (s u : Reading) (line behind : List ℕ) → Adds s.stage s u line → length (said s ++ (line ++ (10 ∷ behind))) < 2 ^ 64 → said u ++ behind ≡ said s ++ (line ++ (10 ∷ behind))
+joined s u line behind one all =
+    let size : length (said s ++ (line ++ (10 ∷ behind))) ≡ length (said s) + length (line ++ (10 ∷ behind)) = length-append (said s) (line ++ (10 ∷ behind)) in
+    let own : length (said_at s.stage s) < 2 ^ 64 = omega arith in
+    ap (λ l. l ++ behind) (one.text own) ∙ append_assoc (said s) (line ++ newline) behind ∙ ap (λ l. said s ++ l) (append_assoc line newline behind)
+
+whole_line : (n : ℕ) (s t : Reading) (line next : List ℕ) (others : List (List ℕ)) (ended : Bool) (made : Result Reading ℕ) → KeepsAt s.stage s → table_step s line ≡ made
+    → ((n : ℕ) (u : Reading) → KeepsAt u.stage u → read_from table_grammar n u (next ∷ others) ≡ Ok t → Told u t (join_with_byte 10 (next ∷ others)))
     → ◌≡◌ {A = Result Reading LineFault} (if ended then Err (end_fault n) else after_line table_grammar n made (λ read. read_from table_grammar (n + 1) read (next ∷ others))) (Ok t)
     → Told s t (join_with_byte 10 (line ∷ next ∷ others))
 unfolding table_step
-whole_line n s t line next others true made kept short is later h = cc
-whole_line n s t line next others false (Err kind) kept short is later h = cc
-whole_line n s t line next others false (Ok u) kept short is later h =
+whole_line n s t line next others true made kept is later h = cc
+whole_line n s t line next others false (Err kind) kept is later h = cc
+whole_line n s t line next others false (Ok u) kept is later h =
     let behind : List ℕ = join_with_byte 10 (next ∷ others) in
-    let size : length (said s ++ (line ++ (10 ∷ behind))) ≡ length (said s) + length (line ++ (10 ∷ behind)) = length-append (said s) (line ++ (10 ∷ behind)) in
-    let all : length (said s ++ (line ++ (10 ∷ behind))) < 2 ^ 64 = short in
-    let own : length (said_at s.stage s) < 2 ^ 64 = omega arith in
-    let one : Adds s.stage s u line = step_by s.stage s u line refl kept own is in
-    let same : said u ++ behind ≡ said s ++ (line ++ (10 ∷ behind)) =
-    ap (λ l. l ++ behind) one.text ∙ append_assoc (said s) (line ++ newline) behind ∙ ap (λ l. said s ++ l) (append_assoc line newline behind)
+    let one : Adds s.stage s u line = step_by s.stage s u line refl kept is in
+    let rest : Told u t behind = later (n + 1) u one.kept h in
+    let text : length (said s ++ (line ++ (10 ∷ behind))) < 2 ^ 64 → said t ≡ said s ++ (line ++ (10 ∷ behind)) =
+    λ short. (let same = joined s u line behind one short in rest.text (subst (λ l. length l < 2 ^ 64) (sym same) short) ∙ same)
     in
-    let rest : Told u t behind = later (n + 1) u one.kept (subst (λ l. length l < 2 ^ 64) (sym same) short) h in
-    record { text = rest.text ∙ same; kept = rest.kept; over = rest.over; image = rest.image ∙ one.image }
+    record { text = text; kept = rest.kept; over = rest.over; image = rest.image ∙ one.image }
 
-all_lines : (ls : List (List ℕ)) (n : ℕ) (s t : Reading) → KeepsAt s.stage s → length (said s ++ join_with_byte 10 ls) < 2 ^ 64 → read_from table_grammar n s ls ≡ Ok t → Told s t (join_with_byte 10 ls)
+all_lines : (ls : List (List ℕ)) (n : ℕ) (s t : Reading) → KeepsAt s.stage s → read_from table_grammar n s ls ≡ Ok t → Told s t (join_with_byte 10 ls)
 unfolding read_from
-all_lines [] n s t kept short h = cc
-all_lines (rest ∷ []) n s t kept short h = last_line n s t rest (is_over s.stage) (length rest == 0) refl refl kept h
-all_lines (line ∷ next ∷ others) n s t kept short h =
-    whole_line n s t line next others (is_over s.stage) (table_step s line) kept short refl (λ n u more room k. all_lines (next ∷ others) n u t more room k) h
+all_lines [] n s t kept h = cc
+all_lines (rest ∷ []) n s t kept h = last_line n s t rest (is_over s.stage) (length rest == 0) refl refl kept h
+all_lines (line ∷ next ∷ others) n s t kept h =
+    whole_line n s t line next others (is_over s.stage) (table_step s line) kept refl (λ n u more k. all_lines (next ∷ others) n u t more k) h
 
 -- ---- whole texts
 
@@ -716,7 +768,7 @@ k_over stages.Dirty k e h = cc
 k_over stages.Blocks k e h = cc
 
 keeps_nothing : (image : Image) → KeepsAt stages.Start (nothing image)
-keeps_nothing image = record { begun = (refl, refl, (refl, refl, refl, refl)); k = tt; marked = refl; rows = All-nil _; made = refl }
+keeps_nothing image = record { begun = (refl, refl, (refl, refl, refl, refl)); k = tt; marked = refl; rows = All-nil _; made = refl; noted = unnoted refl }
 
 at_most : (a b : ℕ) → nat_le a b ≡ true → a ≤ b
 at_most a b e = grind (arith, nat_tests)
@@ -724,23 +776,34 @@ at_most a b e = grind (arith, nat_tests)
 abbrev table_of : Reading → Table Bounded
 table_of r = record { k = r.k; rows = r.rows; marked = r.marked }
 
-table_by : (image : Image) (text : List ℕ) (r : Reading) → Told (nothing image) r (join_with_byte 10 (lines text)) → IsTableOf image (table_of r) × (table_text (table_of r) ≡ text)
+-- a table of the image, and a text of fewer bytes than 2^64 is that table's
+abbrev Tells : Image → List ℕ → Table Bounded → Type 0
+Tells image text t = IsTableOf image t × (length text < 2 ^ 64 → table_text t ≡ text)
+
+table_by : (image : Image) (text : List ℕ) (r : Reading) → Told (nothing image) r (join_with_byte 10 (lines text)) → Tells image text (table_of r)
 unfolding lines table_text
 table_by image text r is =
     let bounds = both (nat_le 1 r.k) (nat_le r.k 1024) (k_over r.stage r.k is.over is.kept.k) in
-    let P : Image → Type 0 = λ i. All (λ (row : ℕ × Known Bounded). IsStateOf i row.1) r.rows in (
+    let P : Image → Type 0 = λ i. All (λ (row : ℕ × Known Bounded). IsStateOf i row.1) r.rows in
+    let back : join_with_byte 10 (lines text) ≡ text = join_with_byte-slice_split 10 text in (
       record { k_least = at_most 1 r.k bounds.0; k_greatest = at_most r.k 1024 bounds.1; marked = is.kept.marked; rows = subst P is.image is.kept.rows },
-      sym (said_over r.stage r is.over) ∙ is.text ∙ join_with_byte-slice_split 10 text,
+      λ short. sym (said_over r.stage r is.over) ∙ is.text (subst (λ l. length l < 2 ^ 64) (sym back) short) ∙ back,
     )
 
-read_by : (image : Image) (text : List ℕ) (t : Table Bounded) (read : Result Reading LineFault) → length text < 2 ^ 64 → read_text table_grammar (nothing image) text ≡ read → told read ≡ Ok t → IsTableOf image t × (table_text t ≡ text)
-unfolding lines
-read_by image text t (Err f) short is h = cc
-read_by image text t (Ok r) short is h =
+read_by : (image : Image) (text : List ℕ) (t : Table Bounded) (read : Result Reading LineFault) → read_text table_grammar (nothing image) text ≡ read → told read ≡ Ok t → Tells image text t
+read_by image text t (Err f) is h = cc
+read_by image text t (Ok r) is h =
     let same : table_of r ≡ t = cc in
-    let room : length (join_with_byte 10 (lines text)) < 2 ^ 64 = subst (λ l. length l < 2 ^ 64) (sym (join_with_byte-slice_split 10 text)) short in
-    subst (λ (b : Table Bounded). IsTableOf image b × (table_text b ≡ text)) same (table_by image text r (all_lines (lines text) 1 (nothing image) r (keeps_nothing image) room is))
+    subst (Tells image text) same (table_by image text r (all_lines (lines text) 1 (nothing image) r (keeps_nothing image) is))
+
+tells : (image : Image) (text : List ℕ) (t : Table Bounded) → table_read image text ≡ Ok t → Tells image text t
+unfolding table_read
+tells image text t h = read_by image text t (read_text table_grammar (nothing image) text) refl h
 
 pub texts_tell : TextsTellTables
-unfolding table_read
-texts_tell image text t short h = read_by image text t (read_text table_grammar (nothing image) text) short refl h
+texts_tell image text t short h = let is = tells image text t h in (is.0, is.1 short)
+
+-- the states of a table that a text tells are well
+pub told-well : (image : Image) (text : List ℕ) (table : Table Bounded) → table_read image text ≡ Ok table → All (λ row. IsWellState bounded row.1) table.rows
+told-well image text table read =
+    All-weaker (λ (row : ℕ × Known Bounded). IsStateOf image row.1) (λ (row : ℕ × Known Bounded). IsWellState bounded row.1) (λ row is. is.well) table.rows (tells image text table read).0.rows

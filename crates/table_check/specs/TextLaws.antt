@@ -36,15 +36,16 @@ is_made v = true
 abbrev pub are_made : StateData Bounded → Bool
 are_made s = list_all is_made s.regs && list_all (λ f. is_made f.value) s.facts
 
--- a state of the image, of values that methods make
+-- a well state of the image, of values that methods make
 pub record IsStateOf (image : Image) (s : Known Bounded) : Type 0 where
+  pub well : IsWellState bounded s
   pub bytes : HasImageBytes image s
   pub made : are_made (plain_of s) ≡ true
 
 abbrev pub is_above : ℕ → ℕ → Bool
 is_above a b = nat_lt a b
 
--- a table whose k is one, whose marks ascend, and whose states are of the image
+-- a table whose k is one, whose marks ascend, and whose states are well and of the image
 pub record IsTableOf (image : Image) (t : Table Bounded) : Type 0 where
   pub k_least : 1 ≤ t.k
   pub k_greatest : t.k ≤ 1024
@@ -97,7 +98,6 @@ pub record FitsState (s : StateData Bounded) : Type 0 where
 pub record FitsRow (row : ℕ × Known Bounded) : Type 0 where
   pub at : is_word row.0 ≡ true
   pub state : FitsState (plain_of row.1)
-  pub well : IsWellState bounded row.1
 
 pub record FitsTypes (t : Table Bounded) : Type 0 where
   pub marked : list_all is_word t.marked ≡ true
