@@ -36,6 +36,12 @@ struct Rounds<'a, R: Threads + Sync, G: Gate> {
     gate: &'a G,
 }
 
+// The number of a row, which a closure takes over that is called once.
+#[derive(Drop)]
+struct Number {
+    row: u32,
+}
+
 // The end of the first half of some rows, at the end of a piece.
 fn half(rows: usize, piece: usize) -> usize
     requires some { 0 < piece }
@@ -81,21 +87,24 @@ fn posts_of<R: Threads + Sync, D: Domain, G: Gate>(
     piece: usize,
     gate: &G,
     exploration: &Exploration<D>,
-    from: u32,
+    from: Number,
     rows: &[Row<D>],
 ) -> Result<Vec<Post<D>>, NoMemory>
     requires piece { 0 < piece }
-    requires few { from + length rows.now < 2 ^ 32 }
+    requires few { from.row + length rows.now < 2 ^ 32 }
     ensures { IfOk result (λ posts. ArePosts (values_of D.Domain.own D.eq) image.now stubs.now k rows.now posts.items) }
 {
     if rows.len() <= piece {
-        return piece_posts(alloc, image, stubs, k, gate, exploration, from, rows);
+        return piece_posts(alloc, image, stubs, k, gate, exploration, from.row, rows);
     }
     let middle = half(rows.len(), piece);
     let (front, back) = rows.split_at(middle);
-    let later = from + middle as u32;
+    let later = Number {
+        row: from.row + middle as u32,
+    };
+    let earlier = Number { row: from.row };
     let earlier_posts = move || -> Result<Vec<Post<D>>, NoMemory>
-        requires { IsSync R.row × IsSync D.row × IsSync G.row × IsSend D.row × (0 < piece) × (from + length front.now < 2 ^ 32) }
+        requires { IsSync R.row × IsSync D.row × IsSync G.row × IsSend D.row × (0 < piece) × (earlier.row + length front.now < 2 ^ 32) }
         ensures { IfOk result (λ posts. ArePosts (values_of D.Domain.own D.eq) image.entry.now stubs.entry.now k front.entry.now posts.items) }
     {
         posts_of(
@@ -107,12 +116,12 @@ fn posts_of<R: Threads + Sync, D: Domain, G: Gate>(
             piece,
             gate,
             exploration,
-            from,
+            earlier,
             front,
         )
     };
     let later_posts = move || -> Result<Vec<Post<D>>, NoMemory>
-        requires { IsSync R.row × IsSync D.row × IsSync G.row × IsSend D.row × (0 < piece) × (later + length back.now < 2 ^ 32) }
+        requires { IsSync R.row × IsSync D.row × IsSync G.row × IsSend D.row × (0 < piece) × (later.row + length back.now < 2 ^ 32) }
         ensures { IfOk result (λ posts. ArePosts (values_of D.Domain.own D.eq) image.entry.now stubs.entry.now k back.entry.now posts.items) }
     {
         posts_of(
@@ -209,7 +218,7 @@ impl<R: Threads + Sync, G: Gate> Rounds<'_, R, G> {
             self.piece as usize,
             self.gate,
             exploration,
-            from,
+            Number { row: from },
             round,
         )?;
         self.take_all(exploration, from, posts)?;

@@ -1,7 +1,7 @@
 ghost use Rattle.std.specs.Prelude.{◌<◌};
 
+use crate::calls::{file_with, sink, words_of};
 use crate::inputs::{laid_out, stated_stubs};
-use crate::tests::{file_with, sink, words_of};
 use crate::{Gate, Status, jakstab};
 use bounded_values::Bounded;
 use demo_images::demo;
@@ -20,6 +20,7 @@ use stub_file::Stubs;
 const TURNS: u32 = 100_000_000;
 
 // A row that waits for another one.
+#[derive(Drop)]
 struct Meeting {
     row: u32,
     is_here: AtomicBool,
@@ -51,6 +52,7 @@ impl Meeting {
 }
 
 // A gate at which two rows wait for each other.
+#[derive(Drop)]
 struct MeetGate {
     first: Meeting,
     second: Meeting,
