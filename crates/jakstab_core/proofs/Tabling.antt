@@ -1,5 +1,5 @@
 -- The table of a log: its marks are the open locations, and it is closed.
-use Rattle.std.proofs.Common.{◌≡◌, ℕ, ◌+◌, ◌<◌, Bool, true, false, cond, List, [], ◌∷◌, ◌++◌, length, map, take, get_or, Option, Some, None, refl, sym, subst, ap, ◌∙◌, append-nil}
+use Rattle.std.proofs.Common.{◌≡◌, ℕ, ◌+◌, ◌<◌, Bool, true, false, cond, List, [], ◌∷◌, ◌++◌, length, map, take, get_or, Option, Some, None, refl, sym, subst, ap, ◌∙◌, append-nil, arith}
 use Rattle.std.specs.Prelude.{filter, filter_map, flat_map, not, option_map, option_to_list, slice_get}
 use Rattle.std.specs.List.{enumerate_from}
 use Rattle.std.proofs.lemmas.Grind.{flat_map-append}
@@ -11,15 +11,15 @@ use Rattle.flow_log.specs.declared.cause.Cause.{Cause}
 use Rattle.flow_log.specs.declared.cause.Cause.TheVariants.{Budget}
 use Rattle.flow_log.specs.Log.{Mark, Row, expansion_mark, mark_of, marks_by, unexpanded_marks}
 use Rattle.flow_worklist.specs.Analysis.{ImageLog, image_log}
-use Rattle.std.specs.Prelude.{All, Ok}
+use Rattle.std.specs.Prelude.{Ok}
 use Rattle.bounded_values.specs.declared.value.Bounded.{Bounded}
 use Rattle.bounded_values.specs.BoundedLaws.{bounded, bounded-lawful}
-use Rattle.abstract_state.specs.State.{IsWellState}
 use Rattle.table_check.specs.declared.checking.TableAnswer.{TableAnswer}
 use Rattle.table_check.specs.declared.checking.TableAnswer.TheVariants.{Yes, No}
 use Rattle.table_check.specs.Laws.{RunsAreFollowedBy}
 use Rattle.table_check.specs.Reading.{table_read}
 use Rattle.table_check.proofs.Closing.{runs-are_followed, yes-closed}
+use Rattle.table_check.proofs.Told.{told-well}
 use Rattle.table_check.specs.declared.table.Table.{Table}
 use Rattle.table_check.specs.Closed.{IsYes, answer_by, table_answer, table_edges}
 use Rattle.table_check.proofs.Logging.{log-is_closed}
@@ -93,13 +93,13 @@ module _ {D : Type 0} (d : Values D) (l : IsLawful d) (image : Image) (stubs : S
 
 -- ---- the line of `check`
 
--- the states of a table that a text tells are well
-told-well : (image : Image) (told : List ℕ) (table : Table Bounded) → table_read image told ≡ Ok table → All (λ row. IsWellState bounded row.1) table.rows
-told-well image told table read = ?
+-- the lines of a yes and of a no begin otherwise
+apart : 110 ≡ 121 → ⊥
+apart e = omega arith
 
 yes_line : (answer : TableAnswer) (rows more edges : ℕ) → answer_line rows answer ≡ answer_line more (Yes edges) → IsYes answer
 yes_line (Yes found) rows more edges e = tt
-yes_line (No row kind) rows more edges e = cc
+yes_line (No row kind) rows more edges e = apart (ap (λ line. get_or line 0 0) e)
 
 pub check_covers : (stubs : StatedStubs) (image : Image) (told text : List ℕ) (refuted : Bool) → IsLoaded image → IsChecked image stubs told text refuted → ChecksRuns image stubs told text
 check_covers stubs image told text refuted loaded c table rows edges read line =

@@ -1,15 +1,11 @@
+use crate::calls::{Case, Content, File, check_case};
 use crate::tables::table_of;
-use crate::tests::{check_text, file_with, sink, words_of};
-use crate::{OpenGate, Status, jakstab};
+use crate::{Input, Status};
 use bounded_values::Bounded;
 use demo_images::demo;
 use flow_worklist::{Limits, explore};
 use image_loader::load;
-use outside_io::MemoryShelf;
-use std::alloc::Global;
-use std::process::Abort;
 use std::test::Fail;
-use std::thread::Threads;
 use stub_file::read_stubs;
 use table_check::{TableAnswer, check_table, print_table, read_table};
 
@@ -91,75 +87,105 @@ end 1
 ";
 
 // Commands on code, and the tables that they print.
-static PRINTED: [(&[&str], &[u8], &str); 4] = [
-    (&["table", "i"], SELF_JUMP, ONE_ROW),
-    (&["table", "i", "--stubs", "s"], JE_NEXT, TWO_ROWS),
+static PRINTED: [Case; 5] = [
+    (&["table", "i"], &[SELF_JUMP], Status::Done, ONE_ROW),
+    (
+        &["table", "i", "--stubs", "s"],
+        &[JE_NEXT, ("s", Content::Text(""))],
+        Status::Done,
+        TWO_ROWS,
+    ),
     (
         &["table", "i", "--k", "5", "--budget=1"],
-        JE_NEXT,
+        &[JE_NEXT],
+        Status::Done,
         TWO_ROWS_SPENT,
     ),
-    (&["table", "i"], JUMP_EAX, MARKED),
+    (&["table", "i"], &[JUMP_EAX], Status::Done, MARKED),
+    (&["table", "i", "--k", "0"], &[SELF_JUMP], Status::Usage, ""),
 ];
 
 #[test]
 fn tables_are_printed(rt: HostRuntime) -> Result<(), Fail> {
     let alloc = rt.alloc();
-    for (words, code, want) in &PRINTED {
-        let file = file_with(alloc, code)?;
-        check_text(&rt, alloc, words, &file, want)?;
+    for case in &PRINTED {
+        check_case(&rt, alloc, case)?;
     }
     Ok(())
 }
 
-// Code and tables, each with the status of its check and the line.
-static CHECKED: [(&[u8], &str, Status, &str); 10] = [
-    (SELF_JUMP, ONE_ROW, Status::Done, "yes 1 1\n"),
-    (SELF_JUMP, NO_ROW, Status::VerdictNo, "no 0 1\n"),
-    (SELF_JUMP, OTHER_START, Status::VerdictNo, "no 0 1\n"),
+const CHECK: &[&str] = &["check", "i", "t"];
+
+// Checks of tables.
+static CHECKED: [Case; 11] = [
     (
-        SELF_JUMP,
-        MISCOUNTED,
+        CHECK,
+        &[SELF_JUMP, ("t", Content::Text(ONE_ROW))],
+        Status::Done,
+        "yes 1 1\n",
+    ),
+    (
+        CHECK,
+        &[SELF_JUMP, ("t", Content::Text(NO_ROW))],
+        Status::VerdictNo,
+        "no 0 1\n",
+    ),
+    (
+        CHECK,
+        &[SELF_JUMP, ("t", Content::Text(OTHER_START))],
+        Status::VerdictNo,
+        "no 0 1\n",
+    ),
+    (
+        CHECK,
+        &[SELF_JUMP, ("t", Content::Text(MISCOUNTED))],
         Status::InputRefused { line: 6, kind: 5 },
         "",
     ),
-    (SELF_JUMP, "", Status::InputRefused { line: 1, kind: 7 }, ""),
-    (JE_NEXT, TWO_ROWS, Status::Done, "yes 2 1\n"),
-    (JE_NEXT, TWO_ROWS_SPENT, Status::Done, "yes 2 1\n"),
-    (JE_NEXT, ONE_ROW, Status::VerdictNo, "no 0 3\n"),
-    (JUMP_EAX, MARKED, Status::Done, "yes 1 0\n"),
-    (JUMP_EAX, ONE_ROW, Status::VerdictNo, "no 0 2\n"),
+    (
+        CHECK,
+        &[SELF_JUMP, ("t", Content::Text(""))],
+        Status::InputRefused { line: 1, kind: 7 },
+        "",
+    ),
+    (
+        CHECK,
+        &[JE_NEXT, ("t", Content::Text(TWO_ROWS))],
+        Status::Done,
+        "yes 2 1\n",
+    ),
+    (
+        CHECK,
+        &[JE_NEXT, ("t", Content::Text(TWO_ROWS_SPENT))],
+        Status::Done,
+        "yes 2 1\n",
+    ),
+    (
+        CHECK,
+        &[JE_NEXT, ("t", Content::Text(ONE_ROW))],
+        Status::VerdictNo,
+        "no 0 3\n",
+    ),
+    (
+        CHECK,
+        &[JUMP_EAX, ("t", Content::Text(MARKED))],
+        Status::Done,
+        "yes 1 0\n",
+    ),
+    (
+        CHECK,
+        &[JUMP_EAX, ("t", Content::Text(ONE_ROW))],
+        Status::VerdictNo,
+        "no 0 2\n",
+    ),
+    (CHECK, &[SELF_JUMP], Status::ReadFault(Input::First), ""),
 ];
-
-// The check of a table `t` of an image `i`.
-fn check<R: Abort + Threads + Sync>(
-    rt: &R,
-    alloc: Global,
-    code: &[u8],
-    table: &str,
-    want: Status,
-    text: &str,
-) -> Result<(), Fail> {
-    let mut shelf = MemoryShelf::new(alloc, Vec::new(alloc));
-    shelf.put("i", file_with(alloc, code)?)?;
-    shelf.put("t", Vec::from_slice(alloc, table.as_bytes())?)?;
-    let mut out = sink(alloc, 4096, Vec::new(alloc))?;
-    let mut note = sink(alloc, 4096, Vec::new(alloc))?;
-    let words = words_of(alloc, &["check", "i", "t"])?;
-    let status = jakstab(
-        rt, alloc, &words, &mut shelf, &mut out, &mut note, &OpenGate,
-    );
-    assert_eq!(rt; status, want, "{table}");
-    assert_eq!(rt; out.written(), text.as_bytes(), "{table}");
-    assert_eq!(rt; note.written(), want.line().as_bytes(), "{table}");
-    Ok(())
-}
 
 #[test]
 fn tables_are_checked(rt: HostRuntime) -> Result<(), Fail> {
     let alloc = rt.alloc();
-    for (code, table, want, text) in &CHECKED {
-        check(&rt, alloc, code, table, *want, text)?;
+    for case in &CHECKED {
+        check_case(&rt, alloc, case)?;
     }
     Ok(())
 }
