@@ -6,8 +6,8 @@ use Rattle.std.specs.Prelude.{bytes_eq}
 use Rattle.clap.specs.Walk.{Text, Row}
 use Rattle.command_words.specs.declared.task.Asked.{Asked}
 use Rattle.command_words.specs.declared.words.WordsFault.TheVariants.{Usage}
-use Rattle.command_words.specs.Words.{Piece, Command, RECOVER_OPTIONS, STUBS_OPTION, DEMO_OPTIONS, all_pieces, is_refused, values_of, three_words, decoding, recover_given, recover_of, list_given, list_of, decode_of, run_given, run_of, replay_given, replay_of, demo_given, demo_of, command_of}
-use Rattle.command_words.specs.Reader.{recover_read, list_read, decode_read, run_read, replay_read, demo_read, asked_of, IsRead, Answers}
+use Rattle.command_words.specs.Words.{Piece, Command, RECOVER_OPTIONS, STUBS_OPTION, TABLE_OPTIONS, DEMO_OPTIONS, all_pieces, is_refused, values_of, three_words, decoding, recover_given, recover_of, list_given, list_of, decode_of, run_given, run_of, replay_given, replay_of, table_given, table_of, check_given, check_of, demo_given, demo_of, command_of}
+use Rattle.command_words.specs.Reader.{recover_read, list_read, decode_read, run_read, replay_read, table_read, check_read, demo_read, asked_of, IsRead, Answers}
 use Rattle.command_words.proofs.ReaderLemmas.{same_text}
 
 -- words of which something is refused are none of the command's
@@ -64,6 +64,24 @@ replay_exact words rows r =
 pub replay_refused : (words : List Text) → is_refused STUBS_OPTION (all_pieces words) ≡ true → replay_of words ≡ None
 replay_refused words refused = given_refused STUBS_OPTION words replay_given refused
 
+-- ---- `table`
+
+pub table_exact : (words : List Text) (rows : List Row) → IsRead TABLE_OPTIONS (all_pieces words) rows → table_read rows ≡ table_of words
+table_exact words rows r =
+    rw (r.words, r.named (codes "stubs") refl, r.named (codes "k") refl, r.named (codes "budget") refl) (given_accepted TABLE_OPTIONS words table_given r.accepted)
+
+pub table_refused : (words : List Text) → is_refused TABLE_OPTIONS (all_pieces words) ≡ true → table_of words ≡ None
+table_refused words refused = given_refused TABLE_OPTIONS words table_given refused
+
+-- ---- `check`
+
+pub check_exact : (words : List Text) (rows : List Row) → IsRead STUBS_OPTION (all_pieces words) rows → check_read rows ≡ check_of words
+check_exact words rows r =
+    rw (r.words, r.named (codes "stubs") refl) (given_accepted STUBS_OPTION words check_given r.accepted)
+
+pub check_refused : (words : List Text) → is_refused STUBS_OPTION (all_pieces words) ≡ true → check_of words ≡ None
+check_refused words refused = given_refused STUBS_OPTION words check_given refused
+
 -- ---- `demo`
 
 pub demo_exact : (words : List Text) (rows : List Row) → IsRead DEMO_OPTIONS (all_pieces words) rows → demo_read rows ≡ demo_of words
@@ -91,6 +109,8 @@ pub record IsNoName (word : Text) : Type 0 where
   pub decode : word ≡ codes "decode" → ⊥
   pub run : word ≡ codes "run" → ⊥
   pub replay : word ≡ codes "replay" → ⊥
+  pub table : word ≡ codes "table" → ⊥
+  pub check : word ≡ codes "check" → ⊥
   pub demo : word ≡ codes "demo" → ⊥
 
 pub other_command : {Z : Type 0} (words : List (String Z)) (first : String Z) → 1 ≤ length words → first ≡ slice_index_or words 0 first → IsNoName (string_bytes first) → command_of (map string_bytes words) ≡ None
@@ -104,5 +124,7 @@ other_command (word ∷ words) first some is other =
       is_other bytes (codes "decode") o.decode,
       is_other bytes (codes "run") o.run,
       is_other bytes (codes "replay") o.replay,
+      is_other bytes (codes "table") o.table,
+      is_other bytes (codes "check") o.check,
       is_other bytes (codes "demo") o.demo,
     ) refl

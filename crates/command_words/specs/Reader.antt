@@ -9,13 +9,14 @@ use Rattle.demo_images.specs.Demo.{MOST_BLOCKS}
 use Rattle.command_words.specs.declared.task.Options.{Options}
 use Rattle.command_words.specs.declared.task.TextVersion.{TextVersion}
 use Rattle.command_words.specs.declared.words.ThreeWords.{ThreeWords as ThreeWordsGiven}
+use Rattle.command_words.specs.declared.words.TwoWords.{TwoWords as TwoWordsGiven}
 use Rattle.command_words.specs.declared.task.Task.TheVariants as tasks
 use Rattle.command_words.specs.declared.task.Task.{Task as TaskGiven}
 use Rattle.command_words.specs.declared.task.Asked.{Asked}
 use Rattle.command_words.specs.declared.task.Asked.TheVariants as asked
 use Rattle.command_words.specs.declared.words.WordsFault.{WordsFault}
 use Rattle.command_words.specs.declared.words.WordsFault.TheVariants.{Usage}
-use Rattle.command_words.specs.Words.{Piece, Task, Recover, ListImage, Decode, Run, Replay, Command, Demo, dashed, values_of, is_refused, on_image, asked_with, recover_with, demo_with, options_with, version_numbered, number_given, number_within, domain_given, file_given, only_word, ThreeWords, three_words, decoding, running, replaying, K_DEFAULT, K_LIMIT, BUDGET_DEFAULT, BUDGET_LIMIT}
+use Rattle.command_words.specs.Words.{Piece, Task, Recover, ListImage, Decode, Run, Replay, Tabulate, Check, Command, Demo, dashed, values_of, is_refused, on_image, asked_with, recover_with, demo_with, options_with, version_numbered, number_given, number_within, domain_given, file_given, only_word, ThreeWords, TwoWords, three_words, two_words, decoding, running, replaying, tabulate_with, checking, K_DEFAULT, K_LIMIT, BUDGET_DEFAULT, BUDGET_LIMIT}
 
 -- the id of the positional words
 abbrev pub WORDS : Text
@@ -78,6 +79,14 @@ run_read rows = option_and_then (λ stubs. option_and_then (running stubs) (thre
 abbrev pub replay_read : List Row → Option Command
 replay_read rows = option_and_then (λ stubs. option_map (replaying stubs) (three_words (listed WORDS rows))) (stubs_read rows)
 
+abbrev pub table_read : List Row → Option Command
+table_read rows =
+    asked_with (only_word (listed WORDS rows)) (stubs_read rows)
+    (tabulate_with (number_given K_DEFAULT K_LIMIT (listed (codes "k") rows)) (number_given BUDGET_DEFAULT BUDGET_LIMIT (listed (codes "budget") rows)))
+
+abbrev pub check_read : List Row → Option Command
+check_read rows = option_and_then (λ stubs. option_map (checking stubs) (two_words (listed WORDS rows))) (stubs_read rows)
+
 abbrev pub demo_read : List Row → Option Command
 demo_read rows = demo_with (option_and_then (number_within 0 MOST_BLOCKS) (only_word (listed WORDS rows))) (options_read rows)
 
@@ -87,6 +96,11 @@ task_of tasks.List = ListImage
 task_of (tasks.Decode address count) = Decode address count
 task_of (tasks.Run start steps) = Run start.now steps
 task_of (tasks.Replay automaton taken) = Replay automaton.now taken.now
+task_of (tasks.Tabulate k budget) = Tabulate k budget
+task_of (tasks.Check table) = Check table.now
+
+abbrev pub two_of : TwoWordsGiven → TwoWords
+two_of words = record { first = words.first.now; second = words.second.now }
 
 abbrev pub three_of : ThreeWordsGiven → ThreeWords
 three_of words = record { first = words.first.now; second = words.second.now; third = words.third.now }

@@ -21,6 +21,10 @@ pub data Task : Type 0 where
   Run : List ℕ → ℕ → Task
   -- an automaton and a record
   Replay : List ℕ → List ℕ → Task
+  -- `--k` and `--budget`
+  Tabulate : ℕ → ℕ → Task
+  -- a table
+  Check : List ℕ → Task
 
 -- the names of an image's file and of its stub file, and what is done with the image
 pub record ImageCommand : Type 0 where
@@ -208,6 +212,15 @@ abbrev pub only_word : List (List ℕ) → Option (List ℕ)
 only_word (word ∷ []) = Some word
 only_word _ = None
 
+-- exactly two
+pub record TwoWords : Type 0 where
+  pub first : List ℕ
+  pub second : List ℕ
+
+abbrev pub two_words : List (List ℕ) → Option TwoWords
+two_words (first ∷ second ∷ []) = Some (record { first = first; second = second })
+two_words _ = None
+
 -- exactly three
 pub record ThreeWords : Type 0 where
   pub first : List ℕ
@@ -281,6 +294,32 @@ replay_given given = option_and_then (λ stubs. option_map (replaying stubs) (th
 abbrev pub replay_of : List (List ℕ) → Option Command
 replay_of words = option_and_then replay_given (words_given STUBS_OPTION words)
 
+-- `table IMAGE`, with `--stubs`, `--k` and `--budget`
+abbrev pub tabulate_with : Option ℕ → Option ℕ → Option Task
+tabulate_with (Some k) (Some budget) = Some (Tabulate k budget)
+tabulate_with _ _ = None
+
+abbrev pub table_given : List Piece → Option Command
+table_given given =
+    asked_with (only_word (values_of None given)) (file_given (given_to (codes "stubs") given))
+    (tabulate_with (number_given K_DEFAULT K_LIMIT (given_to (codes "k") given)) (number_given BUDGET_DEFAULT BUDGET_LIMIT (given_to (codes "budget") given)))
+
+abbrev pub TABLE_OPTIONS : List (List ℕ)
+TABLE_OPTIONS = codes "stubs" ∷ codes "k" ∷ codes "budget" ∷ []
+
+abbrev pub table_of : List (List ℕ) → Option Command
+table_of words = option_and_then table_given (words_given TABLE_OPTIONS words)
+
+-- `check IMAGE TABLE`, with `--stubs`
+abbrev pub checking : Option (List ℕ) → TwoWords → Command
+checking stubs words = on_image words.first stubs (Check words.second)
+
+abbrev pub check_given : List Piece → Option Command
+check_given given = option_and_then (λ stubs. option_map (checking stubs) (two_words (values_of None given))) (file_given (given_to (codes "stubs") given))
+
+abbrev pub check_of : List (List ℕ) → Option Command
+check_of words = option_and_then check_given (words_given STUBS_OPTION words)
+
 -- `demo N` with its options
 abbrev pub demo_with : Option ℕ → Option Options → Option Command
 demo_with (Some blocks) (Some options) = Some (Demo blocks options)
@@ -304,5 +343,7 @@ command_of (command ∷ words) =
     else if bytes_eq command (codes "decode") then decode_of words
     else if bytes_eq command (codes "run") then run_of words
     else if bytes_eq command (codes "replay") then replay_of words
+    else if bytes_eq command (codes "table") then table_of words
+    else if bytes_eq command (codes "check") then check_of words
     else if bytes_eq command (codes "demo") then demo_of words
     else None

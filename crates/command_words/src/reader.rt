@@ -1,7 +1,7 @@
 ghost use Rattle.std.specs.Prelude.{◌≡◌, [], ◌∷◌, ℕ, List, true, false, IfOk, MatchResult, codes, drop, map, string_bytes};
 ghost use Rattle.clap.specs.Words.{app_of, found_of, is_simple_and_free, rows_of, rule_of, with_rule};
 ghost use Rattle.command_words.specs.Given.{IsGiven};
-ghost use Rattle.command_words.specs.Words.{DEMO_OPTIONS, RECOVER_OPTIONS, STUBS_OPTION, all_pieces, is_refused};
+ghost use Rattle.command_words.specs.Words.{DEMO_OPTIONS, RECOVER_OPTIONS, STUBS_OPTION, TABLE_OPTIONS, all_pieces, is_refused};
 ghost use Rattle.command_words.specs.Reader.{IsRead, WORDS, is_known, listed, option_rule, reader, words_rule};
 
 use crate::words::WordsFault;
@@ -58,6 +58,14 @@ pub fn recover_reader<'a>(alloc: Global) -> Result<Command<'a>, AllocError>
     with_limits(alloc, command)?.arg(option(alloc, "text"))
 }
 
+// `table` with its options.
+pub fn table_reader<'a>(alloc: Global) -> Result<Command<'a>, AllocError>
+    ensures { IfOk result (λ c. app_of c ≡ reader (codes "table") TABLE_OPTIONS) }
+{
+    let command = image_reader(alloc, "table")?;
+    with_counts(alloc, command)
+}
+
 // `demo` with its options.
 pub fn demo_reader<'a>(alloc: Global) -> Result<Command<'a>, AllocError>
     ensures { IfOk result (λ c. app_of c ≡ reader (codes "demo") DEMO_OPTIONS) }
@@ -66,6 +74,15 @@ pub fn demo_reader<'a>(alloc: Global) -> Result<Command<'a>, AllocError>
         .disable_help_flag(true)
         .arg(positional_words(alloc))?;
     with_limits(alloc, command)
+}
+
+// How many values and rows, behind the options that the command has.
+fn with_counts<'a>(alloc: Global, command: Command<'a>) -> Result<Command<'a>, AllocError>
+    ensures { IfOk result (λ c. app_of c ≡ with_rule (with_rule (app_of command.entry) (option_rule (codes "k"))) (option_rule (codes "budget"))) }
+{
+    command
+        .arg(option(alloc, "k"))?
+        .arg(option(alloc, "budget"))
 }
 
 // The options of an analysis, behind those that the command has.

@@ -3,7 +3,7 @@ use std::alloc::{AllocError, Global};
 use std::test::Fail;
 
 // The words that are a command, each with what they ask: the command, the files and what is given to it, with `-` for no stub file.
-const ACCEPTED: [(&str, &str); 53] = [
+const ACCEPTED: [(&str, &str); 59] = [
     ("recover a", "recover a - 32 100000 bounded 2"),
     (
         "recover --k 3 a --budget=7 --domain flat",
@@ -82,6 +82,12 @@ const ACCEPTED: [(&str, &str); 53] = [
     ("replay --stubs=d -- a -b --stubs", "replay a d -b --stubs"),
     ("replay a a a", "replay a - a a"),
     ("replay - - -", "replay - - - -"),
+    ("table a", "table a - 32 100000"),
+    ("table a --k 3 --budget=7", "table a - 3 7"),
+    ("table --stubs b -- -a", "table -a b 32 100000"),
+    ("check a b", "check a - b"),
+    ("check --stubs=c a b", "check a c b"),
+    ("check -- -a -b", "check -a - -b"),
     ("demo 0", "demo 0 32 100000 bounded"),
     ("demo 2000", "demo 2000 32 100000 bounded"),
     ("demo 02000 --k 1", "demo 2000 1 100000 bounded"),
@@ -93,7 +99,7 @@ const ACCEPTED: [(&str, &str); 53] = [
 ];
 
 // Words that are none.
-const REFUSED: [&str; 111] = [
+const REFUSED: [&str; 123] = [
     "",
     "recover",
     "recover a b",
@@ -192,6 +198,18 @@ const REFUSED: [&str; 111] = [
     "replay a b c --k 3",
     "replay a b c --stubs=",
     "replay a b c --stubs d --stubs e",
+    "table",
+    "table a b",
+    "table a --domain bounded",
+    "table a --text 1",
+    "table a --k 0",
+    "table a --k 1025",
+    "table a --budget 1000001",
+    "check",
+    "check a",
+    "check a b c",
+    "check a b --k 3",
+    "check a -b",
     "demo",
     "demo 2001",
     "demo 1 2",
@@ -239,6 +257,8 @@ fn task_told(alloc: Global, files: &str, task: Task) -> Result<String, AllocErro
         Task::Replay { automaton, record } => {
             format!(in alloc; "replay {files} {automaton} {record}")
         }
+        Task::Tabulate { k, budget } => format!(in alloc; "table {files} {k} {budget}"),
+        Task::Check { table } => format!(in alloc; "check {files} {table}"),
     }
 }
 

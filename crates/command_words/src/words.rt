@@ -1,12 +1,13 @@
 ghost use Rattle.std.specs.Prelude.{◌≡◌, ◌≤◌, ◌<◌, ◌+◌, [], ◌∷◌, List, ℕ, length, map, drop, option_map, string_bytes, codes, Some, None, MatchResult};
 ghost use Rattle.std.specs.List.{list_all};
 ghost use Rattle.clap.specs.Words.{found_of, rows_of};
-ghost use Rattle.command_words.specs.Words.{command_of, list_of, file_given, recover_of, decode_of, run_of, replay_of, demo_of, address_of, number_within, is_digit, is_number, number_given, domain_given, domain_named, only_word, three_words};
+ghost use Rattle.command_words.specs.Words.{command_of, list_of, file_given, recover_of, decode_of, run_of, replay_of, table_of, check_of, demo_of, address_of, number_within, is_digit, is_number, number_given, domain_given, domain_named, only_word, three_words, two_words};
 ghost use Rattle.command_words.specs.Given.{IsGiven};
-ghost use Rattle.command_words.specs.Reader.{WORDS, listed, options_read, version_read, recover_read, list_read, decode_read, run_read, replay_read, demo_read, three_of, asked_of, Answers};
+ghost use Rattle.command_words.specs.Reader.{WORDS, listed, options_read, version_read, recover_read, list_read, decode_read, run_read, replay_read, table_read, check_read, demo_read, three_of, two_of, asked_of, Answers};
 
 use crate::reader::{
     Given, decode_reader, demo_reader, given_under, image_reader, read, recover_reader,
+    table_reader,
 };
 use crate::task::{Asked, DomainName, ImageCommand, Options, Task, TextVersion};
 use clap::ArgMatches;
@@ -55,6 +56,8 @@ pub fn command<'a>(alloc: Global, words: &'a [String]) -> Result<Asked<'a>, Word
             "decode" => decode_words(alloc, words),
             "run" => run_words(alloc, words),
             "replay" => replay_words(alloc, words),
+            "table" => table_words(alloc, words),
+            "check" => check_words(alloc, words),
             "demo" => demo_words(alloc, words),
             _ => Err(WordsFault::Usage),
         },
@@ -201,6 +204,62 @@ fn replay_given<'a>(matches: &ArgMatches<'a>) -> Option<Asked<'a>>
     }))
 }
 
+// The command `table IMAGE` with its options.
+fn table_words<'a>(alloc: Global, words: &'a [String]) -> Result<Asked<'a>, WordsFault>
+    ensures { Answers result (table_of (drop 1 (map string_bytes words.now))) }
+{
+    let Ok(command) = table_reader(alloc) else {
+        return Err(WordsFault::Memory);
+    };
+    match read(command, words) {
+        Ok(matches) => table_given(&matches).ok_or(WordsFault::Usage),
+        Err(fault) => Err(fault),
+    }
+}
+
+// What was read of the words of `table`.
+fn table_given<'a>(matches: &ArgMatches<'a>) -> Option<Asked<'a>>
+    ensures { option_map asked_of result ≡ table_read (rows_of (found_of matches.now)) }
+{
+    let image = only_word(given_under(matches, "words"))?;
+    let stubs = file_given(given_under(matches, "stubs"))?;
+    let k = number_given(given_under(matches, "k"), K, K_LIMIT)?;
+    let budget = number_given(given_under(matches, "budget"), BUDGET, BUDGET_LIMIT)?;
+    Some(Asked::OnImage(ImageCommand {
+        image,
+        stubs,
+        task: Task::Tabulate { k, budget },
+    }))
+}
+
+// The command `check IMAGE TABLE`.
+fn check_words<'a>(alloc: Global, words: &'a [String]) -> Result<Asked<'a>, WordsFault>
+    ensures { Answers result (check_of (drop 1 (map string_bytes words.now))) }
+{
+    let Ok(command) = image_reader(alloc, "check") else {
+        return Err(WordsFault::Memory);
+    };
+    match read(command, words) {
+        Ok(matches) => check_given(&matches).ok_or(WordsFault::Usage),
+        Err(fault) => Err(fault),
+    }
+}
+
+// What was read of the words of `check`.
+fn check_given<'a>(matches: &ArgMatches<'a>) -> Option<Asked<'a>>
+    ensures { option_map asked_of result ≡ check_read (rows_of (found_of matches.now)) }
+{
+    let stubs = file_given(given_under(matches, "stubs"))?;
+    let words = two_words(matches)?;
+    Some(Asked::OnImage(ImageCommand {
+        image: words.first,
+        stubs,
+        task: Task::Check {
+            table: words.second,
+        },
+    }))
+}
+
 // The command `demo N` with its options.
 fn demo_words<'a>(alloc: Global, words: &'a [String]) -> Result<Asked<'a>, WordsFault>
     ensures { Answers result (demo_of (drop 1 (map string_bytes words.now))) }
@@ -255,6 +314,35 @@ fn only_word<'a>(given: Given<'a>) -> Option<&'a str>
         Given::Once(word) => Some(word),
         Given::Often => None,
     }
+}
+
+/// Two positional words.
+#[derive(Clone, Copy)]
+struct TwoWords<'a> {
+    first: &'a str,
+    second: &'a str,
+}
+
+// The positional words, where they are two.
+fn two_words<'a>(matches: &ArgMatches<'a>) -> Option<TwoWords<'a>>
+    ensures { option_map two_of result ≡ two_words (listed WORDS (rows_of (found_of matches.now))) }
+{
+    match matches.get_strs("words") {
+        Some(words) => two_among(words),
+        None => None,
+    }
+}
+
+fn two_among<'a>(words: &[&'a str]) -> Option<TwoWords<'a>>
+    ensures { option_map two_of result ≡ two_words (map (λ s. s.now) words.now) }
+{
+    if words.len() != 2 {
+        return None;
+    }
+    Some(TwoWords {
+        first: words[0],
+        second: words[1],
+    })
 }
 
 /// Three positional words.

@@ -5,3 +5,4 @@ pub mod Printing
 pub mod Saying
 pub mod Finding
 pub mod Starting
+pub mod Tabling

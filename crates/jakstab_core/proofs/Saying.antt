@@ -14,11 +14,12 @@ use Rattle.jakstab_core.specs.declared.work.Work.TheVariants as works
 use Rattle.command_words.specs.Words.{Command, command_of}
 use Rattle.jakstab_core.specs.StatusLine.{status_line}
 use Rattle.jakstab_core.specs.Headline.{CoversRuns}
-use Rattle.jakstab_core.specs.Inputs.{Reading, Origin, File, Made, Kind, ImageFile, StubFile, StartText, AutomatonText, RecordText, Source, sources_of, IsFrom, IsFaulty, IsToldAt, IsUnread, IsTooLong, IsRefusedAt, AreRefused, IsHeldFrom, AreHeld, start_place, stub_number, limit_of}
+use Rattle.jakstab_core.specs.Inputs.{Reading, Origin, File, Made, Kind, ImageFile, StubFile, StartText, AutomatonText, RecordText, TableText, Source, sources_of, IsFrom, IsFaulty, IsToldAt, IsUnread, IsTooLong, IsRefusedAt, AreRefused, IsHeldFrom, AreHeld, start_place, stub_number, limit_of}
 use Rattle.jakstab_core.specs.Tasks.{IsOutput, IsStartRefused, Covers}
 use Rattle.jakstab_core.specs.Says.{Call, Gain, Says, OfCommand, IsDue, IsCommandRefused, IsStartless, IsRefused, IsUsageExact, IsFaultless, IsComplete, IsNoted, Answers}
 use Rattle.jakstab_core.specs.Due.{IsDelivered, OrMemory}
 use Rattle.jakstab_core.proofs.Covering.{text_covers}
+use Rattle.jakstab_core.proofs.Tabling.{check_covers}
 
 -- the text of work says of the machine's runs what it is to say
 covers_of : (work : Work) (stubs : StatedStubs) (image : Image) (text : List ℕ) (refuted : Bool) → IsLoaded image → IsOutput work stubs image text refuted → Covers work stubs image text
@@ -28,6 +29,8 @@ covers_of works.List stubs image text refuted loaded is = tt
 covers_of (works.Decode address count) stubs image text refuted loaded is = tt
 covers_of (works.Run start steps) stubs image text refuted loaded is = tt
 covers_of (works.Replay automaton taken) stubs image text refuted loaded is = tt
+covers_of (works.Tabulate k budget) stubs image text refuted loaded is = tt
+covers_of (works.Check told) stubs image text refuted loaded is = check_covers stubs image told text refuted loaded is
 covers_of (works.Summarize blocks options) stubs image text refuted loaded is = tt
 
 -- ---- which statuses tell of an input or of work on it
@@ -57,6 +60,7 @@ faulty_status StubFile bytes status h = numbered_status StubsRefused (λ n. refl
 faulty_status StartText bytes status h = place_status status h.0 h.2
 faulty_status AutomatonText bytes status h = place_status status h.0 h.2
 faulty_status RecordText bytes status h = place_status status h.0 h.2
+faulty_status TableText bytes status h = absurd h
 
 refused_status : (r : Reading) (s : Source) (status : Status) → IsRefusedAt r s status → is_of_input status ≡ true
 refused_status r s status (inl h) = ap is_of_input h.0
@@ -75,6 +79,8 @@ placed_status status (Some fault) h = place_status status fault h
 start_status : (work : Work) (image : Image) (status : Status) → IsStartRefused work image status → is_of_input status ≡ true
 start_status (works.Run start steps) image status h = placed_status status (start_place h.0) h.2
 start_status (works.Replay automaton taken) image status h = placed_status status (start_place h.0) h.2
+start_status (works.Check told) image status h = place_status status h.0 h.2
+start_status (works.Tabulate k budget) image status h = absurd h
 start_status works.List image status h = absurd h
 start_status (works.Recover options version) image status h = absurd h
 start_status (works.Decode address count) image status h = absurd h

@@ -20,7 +20,7 @@ use Rattle.jakstab_core.specs.declared.status.Input.{Input}
 use Rattle.jakstab_core.specs.declared.status.Input.TheVariants as inputs
 use Rattle.jakstab_core.specs.declared.status.Status.{Status}
 use Rattle.jakstab_core.specs.declared.status.Status.TheVariants.{ReadFault, TooLong, ImageRefused, StubsRefused, InputRefused}
-use Rattle.command_words.specs.Words.{Command, OnImage, Demo, Task, Recover, ListImage, Decode, Run, Replay}
+use Rattle.command_words.specs.Words.{Command, OnImage, Demo, Task, Recover, ListImage, Decode, Run, Replay, Tabulate, Check}
 
 -- what a shelf tells, and its counts of faults by name, before a call and after it
 pub record Reading : Type 0 where
@@ -40,6 +40,8 @@ pub data Kind : Type 0 where
   StartText : Kind
   AutomatonText : Kind
   RecordText : Kind
+  -- any bytes: what a table tells depends on the image, and is read with it
+  TableText : Kind
 
 pub record Source : Type 0 where
   pub input : Input
@@ -86,6 +88,9 @@ automaton_source name = record { input = inputs.First; origin = File name; kind 
 abbrev pub record_source : List ℕ → Source
 record_source name = record { input = inputs.Second; origin = File name; kind = RecordText }
 
+abbrev pub table_source : List ℕ → Source
+table_source name = record { input = inputs.First; origin = File name; kind = TableText }
+
 -- the further inputs, in the order of the words
 abbrev pub task_sources : Task → List Source
 task_sources (Recover options version) = []
@@ -93,6 +98,8 @@ task_sources ListImage = []
 task_sources (Decode address count) = []
 task_sources (Run start steps) = start_source start ∷ []
 task_sources (Replay automaton taken) = automaton_source automaton ∷ record_source taken ∷ []
+task_sources (Tabulate k budget) = []
+task_sources (Check table) = table_source table ∷ []
 
 abbrev pub further_sources : Command → List Source
 further_sources (OnImage command) = task_sources command.task
@@ -119,6 +126,7 @@ IsAccepted StubFile bytes = (stubs : StatedStubs) × States bytes stubs
 IsAccepted StartText bytes = (start : StartFile) × StatesStart bytes start
 IsAccepted AutomatonText bytes = (a : Automaton) × (automaton_read bytes ≡ Ok a)
 IsAccepted RecordText bytes = (taken : RunRecord) × StatesRecord bytes taken
+IsAccepted TableText bytes = ⊤
 
 -- an input is read whole and accepted
 abbrev pub IsFine : Option Contents → Source → Type 0
@@ -160,6 +168,7 @@ IsFaulty StubFile bytes status = (fault : StubFault) × Refuses bytes fault × I
 IsFaulty StartText bytes status = IsBadLine (start_read bytes) status
 IsFaulty AutomatonText bytes status = IsBadLine (automaton_read bytes) status
 IsFaulty RecordText bytes status = IsBadLine (record_read bytes) status
+IsFaulty TableText bytes status = ⊥
 
 -- an input is refused since it was not read, is too long, or is faulty
 abbrev pub IsRefusedAt : Reading → Source → Status → Type 0

@@ -6,3 +6,4 @@ pub mod Tasks
 pub mod Says
 pub mod Laws
 pub mod Due
+pub mod Tables

@@ -16,14 +16,16 @@ use Rattle.run_replayer.specs.Record.{RecordOf}
 use Rattle.run_replayer.specs.Texts.{record_text}
 use Rattle.run_replayer.specs.Verdict.{VerdictOf}
 use Rattle.run_replayer.specs.VerdictLine.{is_no, verdict_line}
-use Rattle.command_words.specs.Words.{Command, OnImage, Demo, Task, Recover, ListImage, Decode, Run, Replay}
+use Rattle.command_words.specs.Words.{Command, OnImage, Demo, Task, Recover, ListImage, Decode, Run, Replay, Tabulate, Check}
 use Rattle.jakstab_core.specs.declared.status.Status.{Status}
 use Rattle.jakstab_core.specs.declared.work.Work.{Work}
 use Rattle.jakstab_core.specs.declared.work.Work.TheVariants as works
 use Rattle.jakstab_core.specs.declared.status.Input.TheVariants as inputs
 use Rattle.jakstab_core.specs.Headline.{CoversRuns, recovered_text}
-use Rattle.jakstab_core.specs.Inputs.{Origin, File, IsFrom, IsUnstartable, OfBytes, image_of, stubs_of, limit_of}
+use Rattle.jakstab_core.specs.Inputs.{Origin, File, IsBadLine, IsFrom, IsUnstartable, OfBytes, image_of, stubs_of, limit_of}
 use Rattle.jakstab_core.specs.Summary.{summary_of}
+use Rattle.jakstab_core.specs.Tables.{ChecksRuns, IsChecked, tabulated_text}
+use Rattle.table_check.specs.Reading.{table_read}
 
 -- ---- the work
 
@@ -41,6 +43,12 @@ pub record IsReplayWork (held : Option Contents) (automaton taken : List ℕ) (w
   pub stated : OfBytes held (limit_of inputs.Second) (File taken) (λ text. StatesRecord text recorded)
   pub is : work ≡ works.Replay against recorded
 
+-- a check of what the file of a name holds
+pub record IsCheckWork (held : Option Contents) (name : List ℕ) (work : Work) : Type 0 where
+  pub told : List ℕ
+  pub read : IsFrom held (limit_of inputs.First) (File name) told
+  pub is : work ≡ works.Check told
+
 -- the work of a command, its further inputs read
 abbrev pub IsTaskWork : Option Contents → Task → Work → Type 0
 IsTaskWork held (Recover options version) work = work ≡ works.Recover options version
@@ -48,6 +56,8 @@ IsTaskWork held ListImage work = work ≡ works.List
 IsTaskWork held (Decode address count) work = work ≡ works.Decode address count
 IsTaskWork held (Run start steps) work = IsRunWork held start steps work
 IsTaskWork held (Replay automaton taken) work = IsReplayWork held automaton taken work
+IsTaskWork held (Tabulate k budget) work = work ≡ works.Tabulate k budget
+IsTaskWork held (Check table) work = IsCheckWork held table work
 
 abbrev pub IsWork : Option Contents → Command → Work → Type 0
 IsWork held (OnImage command) work = IsTaskWork held command.task work
@@ -70,10 +80,11 @@ pub record Prepared (held : Option Contents) (command : Command) : Type 0 where
   pub work : Work
   pub due : IsWork held command work
 
--- no run begins as the start file or the record says, which a status tells; other work has no such refusal
+-- no run begins as the start file or the record says, or the table has a bad line, which a status tells; other work has no such refusal
 abbrev pub IsStartRefused : Work → Image → Status → Type 0
 IsStartRefused (works.Run start steps) image status = IsUnstartable image start status
 IsStartRefused (works.Replay automaton taken) image status = IsUnstartable image taken.start status
+IsStartRefused (works.Check told) image status = IsBadLine (table_read image told) status
 IsStartRefused _ image status = ⊥
 
 -- ---- what is written
@@ -93,9 +104,13 @@ IsOutput works.List stubs image text refuted = (text ≡ list_text stubs image) 
 IsOutput (works.Decode address count) stubs image text refuted = IsListing image address count text × (refuted ≡ false)
 IsOutput (works.Run start steps) stubs image text refuted = IsRunText image stubs start steps text × (refuted ≡ false)
 IsOutput (works.Replay automaton taken) stubs image text refuted = IsVerdictText image stubs automaton taken text refuted
+IsOutput (works.Tabulate k budget) stubs image text refuted = (text ≡ tabulated_text image stubs k budget) × (refuted ≡ false)
+IsOutput (works.Check told) stubs image text refuted = IsChecked image stubs told text refuted
 IsOutput (works.Summarize blocks options) stubs image text refuted = (text ≡ summary_of image stubs blocks options) × (refuted ≡ false)
 
--- what that text says of the machine's runs: no run leaves the automaton before a location printed open
+-- what that text says of the machine's runs: no run leaves the automaton before a location printed open, nor a table of which it says yes
+-- before a location that this marks
 abbrev pub Covers : Work → StatedStubs → Image → List ℕ → Type 0
 Covers (works.Recover options version) stubs image text = CoversRuns image stubs text
+Covers (works.Check told) stubs image text = ChecksRuns image stubs told text
 Covers _ stubs image text = Unit {0}

@@ -15,6 +15,7 @@ use crate::{Input, Status};
 use automaton_text::{Automaton, read_automaton};
 use command_words::Task;
 use image_loader::{Loaded, fault_number, load};
+use memory_map::Items;
 use outside_io::{Shelf, ShelfFault};
 use run_replayer::{RunRecord, read_record, read_start};
 use std::alloc::Global;
@@ -71,6 +72,13 @@ pub fn read_work<S: Shelf>(alloc: Global, shelf: &mut S, task: Task) -> Result<W
             let record = read_record_file(alloc, shelf, record)?;
             Ok(Work::Replay { automaton, record })
         }
+        Task::Tabulate { k, budget } => Ok(Work::Tabulate { k, budget }),
+        Task::Check { table } => {
+            let told = read_file(alloc, shelf, table, Input::First)?;
+            Ok(Work::Check {
+                told: Items::from_vec(told),
+            })
+        }
     }
 }
 
@@ -120,8 +128,8 @@ fn read_record_file<S: Shelf>(alloc: Global, shelf: &mut S, name: &str) -> Resul
     }
 }
 
-// The status of a text that is refused.
-fn text_status(fault: TextFault) -> Status
+/// The status of a text that is refused.
+pub fn text_status(fault: TextFault) -> Status
     ensures { result ≡ text_status fault }
 {
     match fault {

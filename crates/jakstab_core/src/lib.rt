@@ -39,6 +39,9 @@ mod second_list_tests;
 mod status;
 mod summary;
 #[cfg(test)]
+mod table_tests;
+mod tables;
+#[cfg(test)]
 mod tests;
 #[cfg(test)]
 mod thread_tests;
@@ -48,4 +51,5 @@ mod work;
 pub use flow_worklist::{Gate, OpenGate};
 pub use laws::replays_find_edges;
 pub use status::{Input, Status};
+pub use tables::table_of;
 pub use top::jakstab;

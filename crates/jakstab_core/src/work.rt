@@ -8,13 +8,15 @@ use crate::Status;
 use crate::recover::recovered_text;
 use crate::running::{run_output, verdict_output};
 use crate::summary::summary;
+use crate::tables::{check_output, table_text};
 use automaton_text::Automaton;
 use bit_words::NoMemory;
 use command_words::{Options, TextVersion};
 use decode_listing::print_listing;
-use flow_worklist::Gate;
+use flow_worklist::{Gate, Limits};
 use image_listing::print_list;
 use image_loader::{Image, Loaded};
+use memory_map::Items;
 use run_replayer::RunRecord;
 use std::alloc::Global;
 use std::thread::Threads;
@@ -45,6 +47,15 @@ pub enum Work {
     Replay {
         automaton: Automaton,
         record: RunRecord,
+    },
+    /// Prints the table of its exploration over bounded values.
+    Tabulate {
+        k: u32,
+        budget: u32,
+    },
+    /// Checks the table that these bytes tell.
+    Check {
+        told: Items<u8>,
     },
     /// Sums up the log of the demo image of so many blocks.
     Summarize {
@@ -102,6 +113,10 @@ fn output_of_image<R: Threads + Sync, G: Gate>(
         Work::Replay { automaton, record } => {
             verdict_output(alloc, image, stubs, &automaton, &record)
         }
+        Work::Tabulate { k, budget } => {
+            plain(table_text(rt, alloc, image, stubs, Limits { k, budget }, gate))
+        }
+        Work::Check { told } => check_output(rt, alloc, image, stubs, told.as_slice()),
         Work::Summarize { blocks, options } => {
             plain(summary(rt, alloc, image, stubs, blocks, options, gate))
         }

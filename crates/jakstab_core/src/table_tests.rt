@@ -1,0 +1,214 @@
+use crate::calls::{Case, Content, File, check_case};
+use crate::tables::table_of;
+use crate::{Input, Status};
+use bounded_values::Bounded;
+use demo_images::demo;
+use flow_worklist::{Limits, explore};
+use image_loader::load;
+use std::test::Fail;
+use stub_file::read_stubs;
+use table_check::{TableAnswer, check_table, print_table, read_table};
+
+const SELF_JUMP: &[u8] = b"\xEB\xFE";
+
+const JE_NEXT: &[u8] = b"\x74\x00\xF4";
+
+const JUMP_EAX: &[u8] = b"\xFF\xE0";
+
+// The table of the jump to itself; the other two have its row too.
+const ONE_ROW: &str = "\
+jakstab-table 1
+k 32
+row 08048000
+regs a a a a e:stack:00000000 a a a
+flags ??????0
+end 1
+";
+
+const NO_ROW: &str = "\
+jakstab-table 1
+k 32
+end 0
+";
+
+// A start whose EAX is known.
+const OTHER_START: &str = "\
+jakstab-table 1
+k 32
+row 08048000
+regs 00000000 a a a e:stack:00000000 a a a
+flags ??????0
+end 1
+";
+
+const MISCOUNTED: &str = "\
+jakstab-table 1
+k 32
+row 08048000
+regs a a a a e:stack:00000000 a a a
+flags ??????0
+end 2
+";
+
+const TWO_ROWS: &str = "\
+jakstab-table 1
+k 32
+row 08048000
+regs a a a a e:stack:00000000 a a a
+flags ??????0
+row 08048002
+regs a a a a e:stack:00000000 a a a
+flags ??????0
+end 2
+";
+
+// The second row is not expanded.
+const TWO_ROWS_SPENT: &str = "\
+jakstab-table 1
+k 5
+open 08048002
+row 08048000
+regs a a a a e:stack:00000000 a a a
+flags ??????0
+row 08048002
+regs a a a a e:stack:00000000 a a a
+flags ??????0
+end 2
+";
+
+const MARKED: &str = "\
+jakstab-table 1
+k 32
+open 08048000
+row 08048000
+regs a a a a e:stack:00000000 a a a
+flags ??????0
+end 1
+";
+
+// Commands on code, and the tables that they print.
+static PRINTED: [Case; 5] = [
+    (&["table", "i"], &[SELF_JUMP], Status::Done, ONE_ROW),
+    (
+        &["table", "i", "--stubs", "s"],
+        &[JE_NEXT, ("s", Content::Text(""))],
+        Status::Done,
+        TWO_ROWS,
+    ),
+    (
+        &["table", "i", "--k", "5", "--budget=1"],
+        &[JE_NEXT],
+        Status::Done,
+        TWO_ROWS_SPENT,
+    ),
+    (&["table", "i"], &[JUMP_EAX], Status::Done, MARKED),
+    (&["table", "i", "--k", "0"], &[SELF_JUMP], Status::Usage, ""),
+];
+
+#[test]
+fn tables_are_printed(rt: HostRuntime) -> Result<(), Fail> {
+    let alloc = rt.alloc();
+    for case in &PRINTED {
+        check_case(&rt, alloc, case)?;
+    }
+    Ok(())
+}
+
+const CHECK: &[&str] = &["check", "i", "t"];
+
+// Checks of tables.
+static CHECKED: [Case; 11] = [
+    (
+        CHECK,
+        &[SELF_JUMP, ("t", Content::Text(ONE_ROW))],
+        Status::Done,
+        "yes 1 1\n",
+    ),
+    (
+        CHECK,
+        &[SELF_JUMP, ("t", Content::Text(NO_ROW))],
+        Status::VerdictNo,
+        "no 0 1\n",
+    ),
+    (
+        CHECK,
+        &[SELF_JUMP, ("t", Content::Text(OTHER_START))],
+        Status::VerdictNo,
+        "no 0 1\n",
+    ),
+    (
+        CHECK,
+        &[SELF_JUMP, ("t", Content::Text(MISCOUNTED))],
+        Status::InputRefused { line: 6, kind: 5 },
+        "",
+    ),
+    (
+        CHECK,
+        &[SELF_JUMP, ("t", Content::Text(""))],
+        Status::InputRefused { line: 1, kind: 7 },
+        "",
+    ),
+    (
+        CHECK,
+        &[JE_NEXT, ("t", Content::Text(TWO_ROWS))],
+        Status::Done,
+        "yes 2 1\n",
+    ),
+    (
+        CHECK,
+        &[JE_NEXT, ("t", Content::Text(TWO_ROWS_SPENT))],
+        Status::Done,
+        "yes 2 1\n",
+    ),
+    (
+        CHECK,
+        &[JE_NEXT, ("t", Content::Text(ONE_ROW))],
+        Status::VerdictNo,
+        "no 0 3\n",
+    ),
+    (
+        CHECK,
+        &[JUMP_EAX, ("t", Content::Text(MARKED))],
+        Status::Done,
+        "yes 1 0\n",
+    ),
+    (
+        CHECK,
+        &[JUMP_EAX, ("t", Content::Text(ONE_ROW))],
+        Status::VerdictNo,
+        "no 0 2\n",
+    ),
+    (CHECK, &[SELF_JUMP], Status::ReadFault(Input::First), ""),
+];
+
+#[test]
+fn tables_are_checked(rt: HostRuntime) -> Result<(), Fail> {
+    let alloc = rt.alloc();
+    for case in &CHECKED {
+        check_case(&rt, alloc, case)?;
+    }
+    Ok(())
+}
+
+// The demo of 200 blocks has 4,803 rows and 3,601 edges.
+#[test]
+fn the_table_of_a_demo_is_closed(rt: HostRuntime) -> Result<(), Fail> {
+    let alloc = rt.alloc();
+    let (file, stub_file) = demo(alloc, 200).ok().ok_or("no demo")?;
+    let stubs = read_stubs(alloc, &stub_file).ok().ok_or("no stubs")?;
+    let loaded = load(alloc, &file).ok().ok_or("no image")?;
+    let image = loaded.bind(alloc, &stubs)?;
+    let limits = Limits {
+        k: 32,
+        budget: 100_000,
+    };
+    let log = explore::<HostRuntime, Bounded>(&rt, alloc, &image, &stubs, limits)?;
+    let table = table_of(alloc, &log, &image, &stubs, 32)?;
+    assert_eq!(rt; table.rows.len(), 4803);
+    let answer = check_table(&rt, alloc, &image, &stubs, &table)?;
+    assert_eq!(rt; answer, TableAnswer::Yes { edges: 3601 });
+    let text = print_table(alloc, &table)?;
+    let again = read_table(alloc, &image, &text).ok().ok_or("not read")?;
+    assert_eq!(rt; print_table(alloc, &again)?.as_slice(), text.as_slice());
+    Ok(())
+}
