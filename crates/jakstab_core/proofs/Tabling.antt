@@ -94,12 +94,12 @@ module _ {D : Type 0} (d : Values D) (l : IsLawful d) (image : Image) (stubs : S
 -- ---- the line of `check`
 
 -- the lines of a yes and of a no begin otherwise
-apart : 110 ≡ 121 → ⊥
-apart e = omega arith
+apart : (n y : ℕ) → n ≡ 110 → y ≡ 121 → n ≡ y → ⊥
+apart n y is_n is_y e = omega arith
 
 yes_line : (answer : TableAnswer) (rows more edges : ℕ) → answer_line rows answer ≡ answer_line more (Yes edges) → IsYes answer
 yes_line (Yes found) rows more edges e = tt
-yes_line (No row kind) rows more edges e = apart (ap (λ line. get_or line 0 0) e)
+yes_line (No row kind) rows more edges e = apart 110 121 refl refl (ap (λ line. get_or line 0 0) e)
 
 pub check_covers : (stubs : StatedStubs) (image : Image) (told text : List ℕ) (refuted : Bool) → IsLoaded image → IsChecked image stubs told text refuted → ChecksRuns image stubs told text
 check_covers stubs image told text refuted loaded c table rows edges read line =

@@ -9,11 +9,11 @@ use std::test::Fail;
 use stub_file::read_stubs;
 use table_check::{TableAnswer, check_table, print_table, read_table};
 
-const SELF_JUMP: &[u8] = b"\xEB\xFE";
+const SELF_JUMP: File = ("i", Content::Code(b"\xEB\xFE"));
 
-const JE_NEXT: &[u8] = b"\x74\x00\xF4";
+const JE_NEXT: File = ("i", Content::Code(b"\x74\x00\xF4"));
 
-const JUMP_EAX: &[u8] = b"\xFF\xE0";
+const JUMP_EAX: File = ("i", Content::Code(b"\xFF\xE0"));
 
 // The table of the jump to itself; the other two have its row too.
 const ONE_ROW: &str = "\
