@@ -2,7 +2,7 @@ ghost use Rattle.std.specs.Prelude.{◌<◌};
 
 use crate::calls::{file_with, sink, words_of};
 use crate::inputs::{laid_out, stated_stubs};
-use crate::{Gate, Status, jakstab};
+use crate::{Gate, OpenGate, Status, jakstab};
 use bounded_values::Bounded;
 use demo_images::demo;
 use flow_worklist::{Limits, Log, Row, explore_in};
@@ -139,8 +139,7 @@ fn log_by<R: Threads + Sync>(
         k: 32,
         budget: 100_000,
     };
-    let gate = MeetGate::of(1, 1);
-    match explore_in(rt, alloc, &image, &stubs, limits, round, piece, &gate) {
+    match explore_in(rt, alloc, &image, &stubs, limits, round, piece, &OpenGate) {
         Ok(log) => Ok(log),
         Err(_) => Err(Status::Memory),
     }
