@@ -1,4 +1,3 @@
-use crate::{Machine, Outcome, StartFault, StartFile};
 use bitflags::Flags as _;
 use image_loader::Image;
 use memory_map::{
@@ -9,6 +8,7 @@ use std::alloc::Global;
 use std::process::Abort;
 use std::test::Fail;
 use stub_file::{Stubs, read_stubs};
+use x86_machine::{Machine, Outcome, StartFault, StartFile};
 
 /// Start files: what they state, and what comes of it. All numbers are hexadecimal: a register, the bases of FS and GS, and
 /// bytes filled in from an address on; of the result an address with the bytes there. What is not stated is 0, but ESP is
@@ -247,44 +247,46 @@ fn choice_of(alloc: Global, words: &str) -> Result<Choice, Fail> {
     Ok(choice)
 }
 
+static OUTCOMES: [(&str, Outcome); 16] = [
+    ("Stepped", Outcome::Stepped),
+    ("NotListed", Outcome::NotListed),
+    ("NoStub", Outcome::NoStub),
+    ("Exited", Outcome::Exited),
+    ("Faulted Fetch", Outcome::Faulted(FaultKind::Fetch)),
+    ("Faulted Read", Outcome::Faulted(FaultKind::Read)),
+    ("Faulted Write", Outcome::Faulted(FaultKind::Write)),
+    ("Faulted Divide", Outcome::Faulted(FaultKind::Divide)),
+    ("Faulted Halt", Outcome::Faulted(FaultKind::Halt)),
+    ("Faulted Trap", Outcome::Faulted(FaultKind::Trap)),
+    ("Faulted Undefined", Outcome::Faulted(FaultKind::Undefined)),
+    ("Faulted NoStack", Outcome::Faulted(FaultKind::NoStack)),
+    ("Faulted NoBlock", Outcome::Faulted(FaultKind::NoBlock)),
+    ("BadChoice Fails", Outcome::BadChoice(BadKind::Fails)),
+    ("BadChoice Base", Outcome::BadChoice(BadKind::Base)),
+    ("BadChoice Fill", Outcome::BadChoice(BadKind::Fill)),
+];
+
 fn outcome_named(text: &str) -> Option<Outcome> {
-    let named = [
-        ("Stepped", Outcome::Stepped),
-        ("NotListed", Outcome::NotListed),
-        ("NoStub", Outcome::NoStub),
-        ("Exited", Outcome::Exited),
-        ("Faulted Fetch", Outcome::Faulted(FaultKind::Fetch)),
-        ("Faulted Read", Outcome::Faulted(FaultKind::Read)),
-        ("Faulted Write", Outcome::Faulted(FaultKind::Write)),
-        ("Faulted Divide", Outcome::Faulted(FaultKind::Divide)),
-        ("Faulted Halt", Outcome::Faulted(FaultKind::Halt)),
-        ("Faulted Trap", Outcome::Faulted(FaultKind::Trap)),
-        ("Faulted Undefined", Outcome::Faulted(FaultKind::Undefined)),
-        ("Faulted NoStack", Outcome::Faulted(FaultKind::NoStack)),
-        ("Faulted NoBlock", Outcome::Faulted(FaultKind::NoBlock)),
-        ("BadChoice Fails", Outcome::BadChoice(BadKind::Fails)),
-        ("BadChoice Base", Outcome::BadChoice(BadKind::Base)),
-        ("BadChoice Fill", Outcome::BadChoice(BadKind::Fill)),
-    ];
-    for (known, outcome) in named {
-        if known == text {
-            return Some(outcome);
+    for (known, outcome) in &OUTCOMES {
+        if *known == text {
+            return Some(*outcome);
         }
     }
     None
 }
 
+static START_FAULTS: [(&str, StartFault); 5] = [
+    ("Align", StartFault::Align),
+    ("Window", StartFault::Window),
+    ("Overlap", StartFault::Overlap),
+    ("Fill 0", StartFault::Fill { index: 0 }),
+    ("Fill 1", StartFault::Fill { index: 1 }),
+];
+
 fn fault_named(text: &str) -> Option<StartFault> {
-    let named = [
-        ("Align", StartFault::Align),
-        ("Window", StartFault::Window),
-        ("Overlap", StartFault::Overlap),
-        ("Fill 0", StartFault::Fill { index: 0 }),
-        ("Fill 1", StartFault::Fill { index: 1 }),
-    ];
-    for (known, fault) in named {
-        if known == text {
-            return Some(fault);
+    for (known, fault) in &START_FAULTS {
+        if *known == text {
+            return Some(*fault);
         }
     }
     None
