@@ -1,9 +1,11 @@
-use crate::*;
+use memory_map::{Choice, Fill};
+use run_replayer::{print_record, read_record, read_start};
 use std::alloc::Global;
+use std::process::Abort;
 use std::test::Fail;
 use text_fields::TextFault;
 
-const START: [&[u8]; 9] = [
+static START: [&[u8]; 9] = [
     b"jakstab-start 1",
     b"regs 00000000 00000001 00000002 00000003 BFFF0000 00000005 00000006 89ABCDEF",
     b"flags 100001",
@@ -15,7 +17,7 @@ const START: [&[u8]; 9] = [
     b"end",
 ];
 
-const RECORD: [&[u8]; 8] = [
+static RECORD: [&[u8]; 8] = [
     b"jakstab-record 1",
     b"regs 00000000 00000001 00000002 00000003 BFFF0000 00000005 00000006 89ABCDEF",
     b"flags 100001",
@@ -172,12 +174,12 @@ static BAD_STARTS: [(usize, &[u8], u8); 58] = [
 #[test]
 fn start_files_are_refused_at_their_first_bad_line(rt: HostRuntime) -> Result<(), Fail> {
     let alloc = rt.alloc();
-    for (good, bad, kind) in BAD_STARTS {
-        let mut text = text_of(alloc, START.get(..good).ok_or("lines")?, bad)?;
+    for (good, bad, kind) in &BAD_STARTS {
+        let mut text = text_of(alloc, START.get(..*good).ok_or("lines")?, bad)?;
         text.push(b'\n')?;
         assert_eq!(rt;
             start_fault(alloc, &text),
-            (good as u64 + 1, kind),
+            (*good as u64 + 1, *kind),
             "{good} {bad:?}"
         );
     }
@@ -256,12 +258,12 @@ static BAD_RECORDS: [(usize, &[u8], u8); 38] = [
 #[test]
 fn records_are_refused_at_their_first_bad_line(rt: HostRuntime) -> Result<(), Fail> {
     let alloc = rt.alloc();
-    for (good, bad, kind) in BAD_RECORDS {
-        let mut text = text_of(alloc, RECORD.get(..good).ok_or("lines")?, bad)?;
+    for (good, bad, kind) in &BAD_RECORDS {
+        let mut text = text_of(alloc, RECORD.get(..*good).ok_or("lines")?, bad)?;
         text.push(b'\n')?;
         assert_eq!(rt;
             record_fault(alloc, &text),
-            (good as u64 + 1, kind),
+            (*good as u64 + 1, *kind),
             "{good} {bad:?}"
         );
     }
@@ -304,6 +306,23 @@ fn fills_of_a_text_have_1_to_1024_bytes(rt: HostRuntime) -> Result<(), Fail> {
     Ok(())
 }
 
+fn check_fill(rt: &impl Abort, fills: &[Fill], at: u32, bytes: &[u8]) {
+    match fills {
+        [fill] => {
+            assert_eq!(rt; fill.at, at);
+            assert_eq!(rt; fill.bytes.as_slice(), bytes);
+        }
+        _ => assert!(rt; false, "one fill at {at:X}"),
+    }
+}
+
+// The first choice of START.
+fn check_choice(rt: &impl Abort, choice: &Choice) {
+    assert_eq!(rt; (choice.flags, choice.eax, choice.ecx), (0xFF, 1, 2));
+    assert_eq!(rt; (choice.edx, choice.base, choice.fails), (3, 4, true));
+    check_fill(rt, choice.fill.as_slice(), 0x2000_0000, &[10, 11, 12]);
+}
+
 #[test]
 fn start_files_are_read(rt: HostRuntime) -> Result<(), Fail> {
     let alloc = rt.alloc();
@@ -315,31 +334,27 @@ fn start_files_are_read(rt: HostRuntime) -> Result<(), Fail> {
     assert_eq!(rt; start.regs, [0, 1, 2, 3, 0xBFFF_0000, 5, 6, 0x89AB_CDEF]);
     assert_eq!(rt; start.flags, 0b10_0001);
     assert_eq!(rt; (start.fs, start.gs), (0x1000_0000, 0x2000_0000));
-    let fill = start.fill.as_slice().first().ok_or("no fill")?;
-    assert_eq!(rt; (start.fill.len(), fill.at), (1, 0x1000_0000));
-    assert_eq!(rt; fill.bytes.as_slice(), [0x90].as_slice());
-    assert_eq!(rt; start.choices.len(), 2);
-    let choice = start.choices.as_slice().first().ok_or("no choice")?;
-    assert_eq!(rt; (choice.flags, choice.eax, choice.ecx), (0xFF, 1, 2));
-    assert_eq!(rt; (choice.edx, choice.base, choice.fails), (3, 4, true));
-    let fill = choice.fill.as_slice().first().ok_or("no fill")?;
-    assert_eq!(rt; (choice.fill.len(), fill.at), (1, 0x2000_0000));
-    assert_eq!(rt; fill.bytes.as_slice(), [10, 11, 12].as_slice());
+    check_fill(&rt, start.fill.as_slice(), 0x1000_0000, &[0x90]);
+    match start.choices.as_slice() {
+        [choice, _] => check_choice(&rt, choice),
+        _ => assert!(rt; false, "two choices"),
+    }
     Ok(())
 }
+
+static END_LINES: [&[u8]; 6] = [
+    b"end steps",
+    b"end exited",
+    b"end faulted",
+    b"end notlisted",
+    b"end nostub",
+    b"end badchoice",
+];
 
 #[test]
 fn records_are_read_and_printed_back(rt: HostRuntime) -> Result<(), Fail> {
     let alloc = rt.alloc();
-    let words: [&[u8]; 6] = [
-        b"end steps",
-        b"end exited",
-        b"end faulted",
-        b"end notlisted",
-        b"end nostub",
-        b"end badchoice",
-    ];
-    for word in words {
+    for word in &END_LINES {
         let mut text = text_of(alloc, RECORD.get(..7).ok_or("lines")?, word)?;
         text.push(b'\n')?;
         match read_record(alloc, &text) {

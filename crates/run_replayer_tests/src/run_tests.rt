@@ -1,8 +1,11 @@
-use crate::*;
 use automaton_text::{Automaton, read_automaton};
 use demo_images::{Import, form_d, form_e};
 use image_loader::{Image, load};
 use memory_map::{Bytes, Choice, Fill, Items};
+use run_replayer::{
+    EndWord, RunFault, RunKind, Verdict, print_record, read_record, replay, run_machine,
+    verdict_line,
+};
 use std::alloc::Global;
 use std::test::Fail;
 use stub_file::{Stubs, read_stubs};
@@ -77,26 +80,31 @@ fn fault_of(alloc: Global, image: &Image, start: &StartFile) -> Option<RunFault>
     run_machine(alloc, image, &Stubs::none(alloc), start, 1).err()
 }
 
-#[test]
-fn starts_are_refused(rt: HostRuntime) -> Result<(), Fail> {
-    let alloc = rt.alloc();
-    let image = image_of(alloc, &OVERLAP)?;
-    let gs = 0x2000_0000;
-    let rows = [
-        (0xBFFF_0000, 0x1000_0000, gs, None),
-        (0xBFFF_0004, 0x1000_0000, gs, Some(StartFault::Align)),
-        (0x0010_0000, 0x1000_0000, gs, Some(StartFault::Window)),
-        (
-            0xBFFF_0000,
-            0x1000_0000,
-            0x1000_1000,
-            Some(StartFault::Overlap),
-        ),
-    ];
-    for (esp, fs, gs, want) in rows {
-        let start = start_at(alloc, esp, fs, gs);
-        assert_eq!(rt; fault_of(alloc, &image, &start), want.map(RunFault::Start));
-    }
+// ESP, FS and GS, and the fault of a start with them.
+static STARTS: [(u32, u32, u32, Option<StartFault>); 4] = [
+    (0xBFFF_0000, 0x1000_0000, 0x2000_0000, None),
+    (
+        0xBFFF_0004,
+        0x1000_0000,
+        0x2000_0000,
+        Some(StartFault::Align),
+    ),
+    (
+        0x0010_0000,
+        0x1000_0000,
+        0x2000_0000,
+        Some(StartFault::Window),
+    ),
+    (
+        0xBFFF_0000,
+        0x1000_0000,
+        0x1000_1000,
+        Some(StartFault::Overlap),
+    ),
+];
+
+// A start that fills one byte of the code.
+fn start_over_code(alloc: Global) -> Result<StartFile, Fail> {
     let mut start = plain_start(alloc);
     let mut fills = Vec::new(alloc);
     fills.push(Fill {
@@ -104,9 +112,20 @@ fn starts_are_refused(rt: HostRuntime) -> Result<(), Fail> {
         bytes: Bytes::from_vec([0x90].to_vec(alloc)?),
     })?;
     start.fill = Items::from_vec(fills);
+    Ok(start)
+}
+
+#[test]
+fn starts_are_refused(rt: HostRuntime) -> Result<(), Fail> {
+    let alloc = rt.alloc();
+    let image = image_of(alloc, &OVERLAP)?;
+    for (esp, fs, gs, want) in &STARTS {
+        let start = start_at(alloc, *esp, *fs, *gs);
+        assert_eq!(rt; fault_of(alloc, &image, &start), want.map(RunFault::Start));
+    }
     let want = StartFault::Fill { index: 0 };
     assert_eq!(rt;
-        fault_of(alloc, &image, &start),
+        fault_of(alloc, &image, &start_over_code(alloc)?),
         Some(RunFault::Start(want))
     );
     Ok(())
@@ -157,18 +176,21 @@ const TO_ITSELF: &[u8] = &[0xEB, 0xFE];
 
 const NOT_LISTED: &[u8] = &[0x0F, 0x05];
 
+// Code, stubs, whether the choices fail, and the word with which the run ends.
+static ENDS: [(&[u8], &[u8], bool, EndWord); 6] = [
+    (TO_ITSELF, b"", false, EndWord::Steps),
+    (TO_EXIT, b"", false, EndWord::Exited),
+    (CALL, PLAIN, false, EndWord::Faulted),
+    (NOT_LISTED, b"", false, EndWord::NotListed),
+    (CALL, b"", false, EndWord::NoStub),
+    (CALL, PLAIN, true, EndWord::BadChoice),
+];
+
 #[test]
 fn runs_end_with_each_word(rt: HostRuntime) -> Result<(), Fail> {
-    let alloc = rt.alloc();
-    for (code, stubs, fails, want) in [
-        (TO_ITSELF, b"".as_slice(), false, EndWord::Steps),
-        (TO_EXIT, b"", false, EndWord::Exited),
-        (CALL, PLAIN, false, EndWord::Faulted),
-        (NOT_LISTED, b"", false, EndWord::NotListed),
-        (CALL, b"", false, EndWord::NoStub),
-        (CALL, PLAIN, true, EndWord::BadChoice),
-    ] {
-        assert_eq!(rt; end_of(alloc, code, stubs, fails)?, want, "{code:?}");
+    for (code, stubs, fails, want) in &ENDS {
+        let end = end_of(rt.alloc(), code, stubs, *fails)?;
+        assert_eq!(rt; end, *want, "{code:?}");
     }
     Ok(())
 }
@@ -230,35 +252,37 @@ const FIRST: &[u8] = b"08048000 08048001";
 
 const SECOND: &[u8] = b"08048001 08048003";
 
+// Code, the steps of a record, and its verdict against the automaton of OVERLAP.
+static VERDICTS: [(&[u8], &[&[u8]], &[u8]); 8] = [
+    (&OVERLAP, &[], b"inside 0\n"),
+    (&OVERLAP, &[FIRST], b"inside 1\n"),
+    (&OVERLAP, &[FIRST, SECOND], b"inside 2\n"),
+    (&OVERLAP, &[FIRST, b"08048001 08048002"], b"notarun 1 to\n"),
+    (
+        &OVERLAP,
+        &[FIRST, b"08048002 08048003"],
+        b"notarun 1 from\n",
+    ),
+    (
+        &OVERLAP,
+        &[FIRST, SECOND, b"08048003 08048004"],
+        b"notarun 2 faulted\n",
+    ),
+    (NOT_LISTED, &[FIRST], b"notarun 0 notlisted\n"),
+    (
+        TO_ITSELF,
+        &[b"08048000 08048000"],
+        b"notanedge 0 08048000 08048000\n",
+    ),
+];
+
 #[test]
 fn replays_tell_each_verdict(rt: HostRuntime) -> Result<(), Fail> {
     let alloc = rt.alloc();
     let a = overlap_automaton(alloc, b"", b"end 3 2 0\n")?;
-    let rows: [(&[u8], &[&[u8]], &[u8]); 8] = [
-        (&OVERLAP, &[], b"inside 0\n"),
-        (&OVERLAP, &[FIRST], b"inside 1\n"),
-        (&OVERLAP, &[FIRST, SECOND], b"inside 2\n"),
-        (&OVERLAP, &[FIRST, b"08048001 08048002"], b"notarun 1 to\n"),
-        (
-            &OVERLAP,
-            &[FIRST, b"08048002 08048003"],
-            b"notarun 1 from\n",
-        ),
-        (
-            &OVERLAP,
-            &[FIRST, SECOND, b"08048003 08048004"],
-            b"notarun 2 faulted\n",
-        ),
-        (NOT_LISTED, &[FIRST], b"notarun 0 notlisted\n"),
-        (
-            TO_ITSELF,
-            &[b"08048000 08048000"],
-            b"notanedge 0 08048000 08048000\n",
-        ),
-    ];
-    for (code, steps, want) in rows {
+    for (code, steps, want) in &VERDICTS {
         let text = record_of(alloc, steps)?;
-        assert_eq!(rt; verdict_of(alloc, code, &a, &text)?.as_slice(), want);
+        assert_eq!(rt; verdict_of(alloc, code, &a, &text)?.as_slice(), *want);
     }
     Ok(())
 }
@@ -288,29 +312,28 @@ fn edges_are_compared_whole(rt: HostRuntime) -> Result<(), Fail> {
     Ok(())
 }
 
+// A mark of the automaton of OVERLAP, the steps of a record, and its verdict.
+static OPENED: [(&[u8], &[&[u8]], &[u8]); 3] = [
+    (b"open 08048000 target\n", &[], b"open 0 08048000\n"),
+    (
+        b"open 08048001 store\n",
+        &[FIRST, SECOND],
+        b"open 1 08048001\n",
+    ),
+    (
+        b"open 08048003 budget\n",
+        &[FIRST, SECOND],
+        b"open 2 08048003\n",
+    ),
+];
+
 #[test]
 fn replays_end_at_open_locations(rt: HostRuntime) -> Result<(), Fail> {
     let alloc = rt.alloc();
-    for (mark, steps, want) in [
-        (
-            b"open 08048000 target\n".as_slice(),
-            [].as_slice(),
-            b"open 0 08048000\n".as_slice(),
-        ),
-        (
-            b"open 08048001 store\n",
-            [FIRST, SECOND].as_slice(),
-            b"open 1 08048001\n",
-        ),
-        (
-            b"open 08048003 budget\n",
-            [FIRST, SECOND].as_slice(),
-            b"open 2 08048003\n",
-        ),
-    ] {
+    for (mark, steps, want) in &OPENED {
         let a = overlap_automaton(alloc, mark, b"end 3 2 1\n")?;
         let text = record_of(alloc, steps)?;
-        assert_eq!(rt; verdict_of(alloc, &OVERLAP, &a, &text)?.as_slice(), want);
+        assert_eq!(rt; verdict_of(alloc, &OVERLAP, &a, &text)?.as_slice(), *want);
     }
     Ok(())
 }
@@ -328,38 +351,41 @@ fn a_run_that_exits_goes_no_further(rt: HostRuntime) -> Result<(), Fail> {
     Ok(())
 }
 
+// A verdict, whether it says no, and its line.
+static LINES: [(Verdict, bool, &[u8]); 5] = [
+    (
+        Verdict::Inside(4_294_967_295),
+        false,
+        b"inside 4294967295\n",
+    ),
+    (
+        Verdict::ReachedOpen(10, 0xF000_0000),
+        false,
+        b"open 10 F0000000\n",
+    ),
+    (
+        Verdict::NotARun(0, RunKind::NoStub),
+        true,
+        b"notarun 0 nostub\n",
+    ),
+    (
+        Verdict::NotARun(1, RunKind::BadChoice),
+        true,
+        b"notarun 1 badchoice\n",
+    ),
+    (
+        Verdict::NotAnEdge(7, 1, 0xABCD),
+        true,
+        b"notanedge 7 00000001 0000ABCD\n",
+    ),
+];
+
 #[test]
 fn verdicts_are_lines(rt: HostRuntime) -> Result<(), Fail> {
-    let alloc = rt.alloc();
-    for (verdict, no, want) in [
-        (
-            Verdict::Inside(4_294_967_295),
-            false,
-            b"inside 4294967295\n".as_slice(),
-        ),
-        (
-            Verdict::ReachedOpen(10, 0xF000_0000),
-            false,
-            b"open 10 F0000000\n",
-        ),
-        (
-            Verdict::NotARun(0, RunKind::NoStub),
-            true,
-            b"notarun 0 nostub\n",
-        ),
-        (
-            Verdict::NotARun(1, RunKind::BadChoice),
-            true,
-            b"notarun 1 badchoice\n",
-        ),
-        (
-            Verdict::NotAnEdge(7, 1, 0xABCD),
-            true,
-            b"notanedge 7 00000001 0000ABCD\n",
-        ),
-    ] {
-        assert_eq!(rt; verdict_line(alloc, verdict)?.as_slice(), want);
-        assert_eq!(rt; verdict.is_no(), no);
+    for (verdict, no, want) in &LINES {
+        let line = verdict_line(rt.alloc(), *verdict)?;
+        assert_eq!(rt; line.as_slice(), *want);
+        assert_eq!(rt; verdict.is_no(), *no);
     }
     Ok(())
 }
