@@ -5,8 +5,6 @@
 
 mod reader;
 mod task;
-#[cfg(test)]
-mod tests;
 mod words;
 
 pub use task::{Asked, DomainName, ImageCommand, Options, Task, TextVersion};

@@ -1,9 +1,9 @@
-use crate::{Asked, DomainName, Options, Task, TextVersion, WordsFault, command};
+use command_words::{Asked, DomainName, Options, Task, TextVersion, WordsFault, command};
 use std::alloc::{AllocError, Global};
 use std::test::Fail;
 
 // The words that are a command, each with what they ask: the command, the files and what is given to it, with `-` for no stub file.
-const ACCEPTED: [(&str, &str); 53] = [
+static ACCEPTED: [(&str, &str); 53] = [
     ("recover a", "recover a - 32 100000 bounded 2"),
     (
         "recover --k 3 a --budget=7 --domain flat",
@@ -93,7 +93,7 @@ const ACCEPTED: [(&str, &str); 53] = [
 ];
 
 // Words that are none.
-const REFUSED: [&str; 111] = [
+static REFUSED: [&str; 111] = [
     "",
     "recover",
     "recover a b",
@@ -268,12 +268,12 @@ fn split(alloc: Global, line: &str) -> Result<Vec<String>, AllocError> {
 #[test]
 fn words_are_a_command(rt: HostRuntime) -> Result<(), Fail> {
     let alloc = rt.alloc();
-    for (line, want) in ACCEPTED {
+    for (line, want) in &ACCEPTED {
         let words = split(alloc, line)?;
         match command(alloc, &words) {
             Ok(asked) => {
                 let got = told(alloc, asked)?;
-                assert_eq!(rt; got.as_str(), want, "{line}");
+                assert_eq!(rt; got.as_str(), *want, "{line}");
             }
             Err(_) => assert!(rt; false, "{line}"),
         }
@@ -284,7 +284,7 @@ fn words_are_a_command(rt: HostRuntime) -> Result<(), Fail> {
 #[test]
 fn other_words_are_refused(rt: HostRuntime) -> Result<(), Fail> {
     let alloc = rt.alloc();
-    for line in REFUSED {
+    for line in &REFUSED {
         let words = split(alloc, line)?;
         let refused = matches!(command(alloc, &words), Err(WordsFault::Usage));
         assert!(rt; refused, "{line}");

@@ -1,0 +1,5 @@
+// The tests of command_words.
+#![tactic(auto)]
+
+#[cfg(test)]
+mod tests;
