@@ -1,7 +1,7 @@
 ghost use Rattle.std.specs.Prelude.{◌≤◌, length};
 
-use super::*;
 use demo_images::{Import, form_d, form_e, form_p};
+use image_loader::{Image, LoadFault, fault_number, load};
 use memory_map::Format;
 use std::alloc::{AllocError, Global};
 use std::process::Abort;

@@ -1,0 +1,5 @@
+// The tests of image_loader.
+#![tactic(auto)]
+
+#[cfg(test)]
+mod tests;
