@@ -23,6 +23,3 @@ pub use fault::ElfFault;
 pub use header::has_elf_magic;
 pub use reader::read_elf;
 pub use reloc::{ElfReloc, RelocSymbol};
-
-#[cfg(test)]
-mod tests;

@@ -1,8 +1,8 @@
 ghost use Rattle.std.specs.Prelude.{◌≤◌};
 
-use super::*;
 use demo_images::{Import, form_d};
-use memory_map::{MOST_NAMES, Perm};
+use elf32_reader::{ElfFault, ElfFile, RelocSymbol, read_elf};
+use memory_map::{MOST_NAMES, Perm, Segment};
 use std::alloc::{AllocError, Global};
 use std::process::Abort;
 use std::test::Fail;
@@ -284,143 +284,194 @@ fn symbol_parts(symbol: RelocSymbol) -> (&'static str, u32) {
     }
 }
 
+fn check_bias(rt: &impl Abort, file: &ElfFile, dynamic: bool, bias: u32) {
+    assert_eq!(rt; file.dynamic, dynamic);
+    assert_eq!(rt; file.bias, bias);
+    assert_eq!(rt; file.entry, bias.wrapping_add(0x0804_8000));
+}
+
+fn check_segment(rt: &impl Abort, segment: &Segment, low: u32, perm: Perm, size: usize) {
+    assert_eq!(rt; segment.low, low);
+    assert!(rt; segment.perm == perm, "rights at {low:X}");
+    assert_eq!(rt; segment.bytes.len(), size, "bytes at {low:X}");
+}
+
+// The code, and the tables with so many bytes.
+fn check_segments(rt: &impl Abort, file: &ElfFile, code: &[u8], size: usize) {
+    match file.segments.as_slice() {
+        [first, second] => {
+            check_segment(
+                rt,
+                first,
+                0x0804_8000,
+                Perm::READ | Perm::EXECUTE,
+                code.len(),
+            );
+            assert_eq!(rt; first.bytes.as_slice(), code);
+            check_segment(rt, second, 0x0900_0000, Perm::READ | Perm::WRITE, size);
+        }
+        _ => assert!(rt; false, "two segments"),
+    }
+}
+
+// The slot of the one import.
+fn check_slot(rt: &impl Abort, file: &ElfFile, want: &str) {
+    match file.relocs.as_slice() {
+        [reloc] => {
+            assert_eq!(rt; reloc.at, 0x0900_0000);
+            assert_eq!(rt; reloc.size, 4);
+            assert!(rt; !reloc.adds);
+            assert_eq!(rt; reloc.plus, 0);
+            assert_eq!(rt; symbol_parts(reloc.symbol), (want, 0));
+        }
+        _ => assert!(rt; false, "one relocation"),
+    }
+}
+
+fn check_name(rt: &impl Abort, file: &ElfFile, want: &[u8]) {
+    match file.names.as_slice() {
+        [name] => assert_eq!(rt; name.as_slice(), want),
+        _ => assert!(rt; false, "one name"),
+    }
+}
+
 #[test]
 fn the_file_of_malloc_has_its_layout(rt: HostRuntime) -> Result<(), Fail> {
-    let alloc = rt.alloc();
     let code = b"\x6A\x08\xFF\x15\0\0\0\x09\xC6\0\x01\xF4";
-    let file = with_imports(alloc, code, &[Import::new(b"malloc", false)])?;
-    assert!(rt; !file.dynamic);
-    assert_eq!(rt; file.bias, 0);
-    assert_eq!(rt; file.entry, 0x0804_8000);
-    let segments = file.segments.as_slice();
-    assert_eq!(rt; segments.len(), 2);
-    assert_eq!(rt; segments[0].low, 0x0804_8000);
-    assert!(rt; segments[0].perm == (Perm::READ | Perm::EXECUTE));
-    assert_eq!(rt; segments[0].bytes.as_slice(), code.as_slice());
-    assert_eq!(rt; segments[1].low, 0x0900_0000);
-    assert!(rt; segments[1].perm == (Perm::READ | Perm::WRITE));
-    assert_eq!(rt; segments[1].bytes.len(), 116);
-    let front = b"\0\0\0\0\0\0\0\x09\x07\x01\0\0";
-    assert_eq!(rt; file.segments.byte_at(0x0900_0007), Some(front[7]));
-    assert_eq!(rt; file.segments.byte_at(0x0900_0073), Some(0));
-    assert_eq!(rt; file.segments.byte_at(0x0900_0074), None);
-    let relocs = file.relocs.as_slice();
-    assert_eq!(rt; relocs.len(), 1);
-    assert_eq!(rt; relocs[0].at, 0x0900_0000);
-    assert_eq!(rt; relocs[0].size, 4);
-    assert!(rt; !relocs[0].adds);
-    assert_eq!(rt; relocs[0].plus, 0);
-    assert_eq!(rt; symbol_parts(relocs[0].symbol), ("import", 0));
-    assert_eq!(rt; file.names.len(), 1);
-    assert_eq!(rt; file.names.as_slice()[0].as_slice(), b"malloc".as_slice());
+    let file = with_imports(rt.alloc(), code, &[Import::new(b"malloc", false)])?;
+    check_bias(&rt, &file, false, 0);
+    check_segments(&rt, &file, code, 116);
+    // The relocation's offset ends with 09; the last byte of the tables is 0.
+    for (at, want) in [
+        (0x0900_0007, Some(9)),
+        (0x0900_0073, Some(0)),
+        (0x0900_0074, None),
+    ] {
+        assert_eq!(rt; file.segments.byte_at(at), want, "{at:X}");
+    }
+    check_slot(&rt, &file, "import");
+    check_name(&rt, &file, b"malloc");
+    Ok(())
+}
+
+// A name, whether it is weak, the code, and what its symbol stands for.
+type Imported = (&'static [u8], bool, &'static [u8], &'static str);
+
+static IMPORTED: [Imported; 2] = [
+    (b"puts", false, b"\xFF\x15\0\0\0\x09\xF4", "import"),
+    (
+        b"__gmon_start__",
+        true,
+        b"\xA1\0\0\0\x09\x85\xC0\x74\x01\xCC\xF4",
+        "weak",
+    ),
+];
+
+fn check_imported(rt: &impl Abort, alloc: Global, row: &Imported) -> Result<(), Fail> {
+    let (name, weak, code, want) = *row;
+    if name.len() > 4096 {
+        return Err(Fail::from("too long"));
+    }
+    let file = with_imports(alloc, code, &[Import::new(name, weak)])?;
+    check_bias(rt, &file, false, 0);
+    check_segments(rt, &file, code, 110 + name.len());
+    check_slot(rt, &file, want);
+    check_name(rt, &file, name);
     Ok(())
 }
 
 #[test]
 fn a_strong_and_a_weak_import_differ(rt: HostRuntime) -> Result<(), Fail> {
-    let alloc = rt.alloc();
-    let strong = with_imports(
-        alloc,
-        b"\xFF\x15\0\0\0\x09\xF4",
-        &[Import::new(b"puts", false)],
-    )?;
-    let weak = with_imports(
-        alloc,
-        b"\xA1\0\0\0\x09\x85\xC0\x74\x01\xCC\xF4",
-        &[Import::new(b"__gmon_start__", true)],
-    )?;
-    for (file, size, name, want) in [
-        (strong, 7, b"puts".as_slice(), "import"),
-        (weak, 11, b"__gmon_start__", "weak"),
-    ] {
-        let segments = file.segments.as_slice();
-        assert_eq!(rt; segments.len(), 2);
-        assert_eq!(rt; segments[0].bytes.len(), size);
-        assert_eq!(rt; segments[1].bytes.len(), 110 + name.len());
-        assert_eq!(rt; file.entry, 0x0804_8000);
-        let relocs = file.relocs.as_slice();
-        assert_eq!(rt; relocs.len(), 1);
-        assert_eq!(rt; relocs[0].at, 0x0900_0000);
-        assert!(rt; !relocs[0].adds);
-        assert_eq!(rt; symbol_parts(relocs[0].symbol), (want, 0));
-        assert_eq!(rt; file.names.len(), 1);
-        assert_eq!(rt; file.names.as_slice()[0].as_slice(), name);
+    for row in &IMPORTED {
+        check_imported(&rt, rt.alloc(), row)?;
     }
     Ok(())
 }
 
+// The first relocation's type; bytes of its symbol at 200 (size, info, other, section) with the value 10; an executable or a shared object.
+// What comes of it: its size, whether it adds, what it adds, and its symbol.
+type Kind = (u8, &'static [u8], u8, u32, bool, u32, (&'static str, u32));
+
+static KINDS: [Kind; 15] = [
+    (1, b"\0\0\0\0\x12\0\0\0", 2, 4, true, 0, ("import", 0)),
+    (1, b"\0\0\0\0\x22\0\0\0", 2, 4, true, 0, ("weak", 0)),
+    (1, b"\0\0\0\0\x10\0\0\0", 2, 4, true, 0, ("import", 0)),
+    (1, b"\0\0\0\0\x11\0\0\0", 2, 4, true, 0, ("unset", 0)),
+    (1, b"\0\0\0\0\x12\0\x01\0", 2, 4, true, 0, ("value", 0x10)),
+    (1, b"\0\0\0\0\x12\0\xFF\xFE", 2, 4, true, 0, ("value", 0x10)),
+    (1, b"\0\0\0\0\x12\0\0\xFF", 2, 4, true, 0, ("unset", 0)),
+    (1, b"\0\0\0\0\x12\0\xF1\xFF", 2, 4, true, 0, ("unset", 0)),
+    (
+        2,
+        b"\0\0\0\0\x12\0\x01\0",
+        2,
+        4,
+        true,
+        0xF700_0000,
+        ("value", 0x10),
+    ),
+    (5, b"\x08\0\0\0\x12\0\0\0", 2, 8, false, 0, ("unset", 0)),
+    (6, b"\0\0\0\0\x12\0\x01\0", 2, 4, false, 0, ("value", 0x10)),
+    (
+        7,
+        b"\0\0\0\0\x12\0\x01\0",
+        3,
+        4,
+        false,
+        0,
+        ("value", 0x40_0010),
+    ),
+    (8, b"\0\0\0\0\x12\0\0\0", 2, 4, true, 0, ("value", 0)),
+    (
+        8,
+        b"\0\0\0\0\x12\0\0\0",
+        3,
+        4,
+        true,
+        0x40_0000,
+        ("value", 0),
+    ),
+    (9, b"\0\0\0\0\x12\0\x01\0", 2, 4, false, 0, ("unset", 0)),
+];
+
+fn file_of_kind(alloc: Global, kind: u8, symbol: &[u8], object: u8) -> Result<ElfFile, Fail> {
+    let mut bytes = whole(alloc)?;
+    put(&mut bytes, 164, &[kind]);
+    put(&mut bytes, 196, &[0x10]);
+    put(&mut bytes, 200, symbol);
+    put(&mut bytes, 16, &[object]);
+    read(alloc, &bytes)
+}
+
+// The two relocations of a file, of which the second is that of the weak import.
+fn check_relocations(rt: &impl Abort, file: &ElfFile, row: &Kind, bias: u32) {
+    let (kind, _, _, size, adds, plus, want) = *row;
+    let last = if want.0 == "import" || want.0 == "weak" {
+        1
+    } else {
+        0
+    };
+    match file.relocs.as_slice() {
+        [first, second] => {
+            assert_eq!(rt; first.at, bias.wrapping_add(0x0900_0000));
+            assert_eq!(rt; first.size, size, "type {kind}");
+            assert_eq!(rt; first.adds, adds, "type {kind}");
+            assert_eq!(rt; first.plus, plus, "type {kind}");
+            assert_eq!(rt; symbol_parts(first.symbol), want, "type {kind}");
+            assert_eq!(rt; symbol_parts(second.symbol), ("weak", last), "type {kind}");
+        }
+        _ => assert!(rt; false, "two relocations of type {kind}"),
+    }
+}
+
 #[test]
 fn each_type_of_relocation_has_its_meaning(rt: HostRuntime) -> Result<(), Fail> {
-    let alloc = rt.alloc();
-    // The first relocation's type; bytes of its symbol at 200 (size, info, other, section) with the value 10; an executable or a shared object.
-    for (kind, symbol, object, size, adds, plus, want) in [
-        (1, b"\0\0\0\0\x12\0\0\0", 2, 4, true, 0, ("import", 0)),
-        (1, b"\0\0\0\0\x22\0\0\0", 2, 4, true, 0, ("weak", 0)),
-        (1, b"\0\0\0\0\x10\0\0\0", 2, 4, true, 0, ("import", 0)),
-        (1, b"\0\0\0\0\x11\0\0\0", 2, 4, true, 0, ("unset", 0)),
-        (1, b"\0\0\0\0\x12\0\x01\0", 2, 4, true, 0, ("value", 0x10)),
-        (1, b"\0\0\0\0\x12\0\xFF\xFE", 2, 4, true, 0, ("value", 0x10)),
-        (1, b"\0\0\0\0\x12\0\0\xFF", 2, 4, true, 0, ("unset", 0)),
-        (1, b"\0\0\0\0\x12\0\xF1\xFF", 2, 4, true, 0, ("unset", 0)),
-        (
-            2,
-            b"\0\0\0\0\x12\0\x01\0",
-            2,
-            4,
-            true,
-            0xF700_0000,
-            ("value", 0x10),
-        ),
-        (5, b"\x08\0\0\0\x12\0\0\0", 2, 8, false, 0, ("unset", 0)),
-        (6, b"\0\0\0\0\x12\0\x01\0", 2, 4, false, 0, ("value", 0x10)),
-        (
-            7,
-            b"\0\0\0\0\x12\0\x01\0",
-            3,
-            4,
-            false,
-            0,
-            ("value", 0x40_0010),
-        ),
-        (8, b"\0\0\0\0\x12\0\0\0", 2, 4, true, 0, ("value", 0)),
-        (
-            8,
-            b"\0\0\0\0\x12\0\0\0",
-            3,
-            4,
-            true,
-            0x40_0000,
-            ("value", 0),
-        ),
-        (9, b"\0\0\0\0\x12\0\x01\0", 2, 4, false, 0, ("unset", 0)),
-    ] {
-        let mut bytes = whole(alloc)?;
-        put(&mut bytes, 164, &[kind]);
-        put(&mut bytes, 196, &[0x10]);
-        put(&mut bytes, 200, symbol);
-        put(&mut bytes, 16, &[object]);
-        let file = read(alloc, &bytes)?;
+    for row in &KINDS {
+        let (kind, symbol, object, ..) = *row;
+        let file = file_of_kind(rt.alloc(), kind, symbol, object)?;
         let bias = if object == 3 { 0x40_0000 } else { 0 };
-        assert_eq!(rt; file.dynamic, object == 3);
-        assert_eq!(rt; file.bias, bias);
-        assert_eq!(rt; file.entry, bias + 0x0804_8000);
-        let relocs = file.relocs.as_slice();
-        assert_eq!(rt; relocs.len(), 2, "type {kind}");
-        assert_eq!(rt; relocs[0].at, bias + 0x0900_0000);
-        assert_eq!(rt; relocs[0].size, size, "type {kind}");
-        assert_eq!(rt; relocs[0].adds, adds, "type {kind}");
-        assert_eq!(rt; relocs[0].plus, plus, "type {kind}");
-        assert_eq!(rt; symbol_parts(relocs[0].symbol), want, "type {kind}");
-        let last = if want.0 == "import" || want.0 == "weak" {
-            1
-        } else {
-            0
-        };
-        assert_eq!(rt;
-            symbol_parts(relocs[1].symbol),
-            ("weak", last),
-            "type {kind}"
-        );
+        check_bias(&rt, &file, object == 3, bias);
+        check_relocations(&rt, &file, row, bias);
     }
     Ok(())
 }
