@@ -274,6 +274,3 @@ impl<D: Domain> Parts<D> {
             && cover_counts(&self.blocks, &s.blocks)
     }
 }
-
-#[cfg(test)]
-mod tests;

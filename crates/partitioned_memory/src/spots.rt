@@ -234,6 +234,3 @@ fn leaves_around<V: Copy, S: Stretch<V>>(
     push_shared(&mut all, back.after)?;
     Ok(all)
 }
-
-#[cfg(test)]
-mod tests;

@@ -1,6 +1,6 @@
-use super::*;
-use crate::area::Area;
 use address_regions::Region;
+use partitioned_memory::{Area, Spot, Spots};
+use std::alloc::Global;
 use std::process::Abort;
 use std::test::Fail;
 
