@@ -15,6 +15,3 @@ pub use fault::StubFault;
 pub use read::read_stubs;
 pub use stub::{Amount, Reply, Stub, StubWrite};
 pub use stubs::Stubs;
-
-#[cfg(test)]
-mod tests;

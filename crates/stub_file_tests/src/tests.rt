@@ -1,6 +1,6 @@
-use super::*;
 use std::alloc::Global;
 use std::test::Fail;
+use stub_file::{Reply, Stub, StubFault, Stubs, read_stubs};
 
 /// What a stub file says of the import `f`: its stub, or the fault of the file.
 fn told(alloc: Global, file: &[u8]) -> Result<String, Fail> {
@@ -167,10 +167,10 @@ static STUBS: [(&str, &str); 66] = [
 #[test]
 fn a_stub_is_read_or_its_first_fault_is_told(rt: HostRuntime) -> Result<(), Fail> {
     let alloc = rt.alloc();
-    for (lines, want) in STUBS {
+    for (lines, want) in &STUBS {
         let file = format!(in alloc; "[stub.f]\n{lines}\n")?;
         let got = told(alloc, file.as_bytes())?;
-        assert_eq!(rt; got.as_str(), want, "{lines}");
+        assert_eq!(rt; got.as_str(), *want, "{lines}");
     }
     Ok(())
 }
@@ -228,9 +228,9 @@ static FILES: [(&str, &str); 28] = [
 #[test]
 fn a_file_is_read_or_its_first_fault_is_told(rt: HostRuntime) -> Result<(), Fail> {
     let alloc = rt.alloc();
-    for (file, want) in FILES {
+    for (file, want) in &FILES {
         let got = told(alloc, file.as_bytes())?;
-        assert_eq!(rt; got.as_str(), want, "{file}");
+        assert_eq!(rt; got.as_str(), *want, "{file}");
     }
     assert_eq!(rt;
         read_stubs(alloc, b"# \xFF").err(),

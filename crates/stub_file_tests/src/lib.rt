@@ -1,0 +1,5 @@
+// The tests of stub_file.
+#![tactic(auto)]
+
+#[cfg(test)]
+mod tests;
