@@ -1,7 +1,9 @@
 ghost use Rattle.std.specs.Prelude.{◌≡◌, IfOk, true};
 ghost use Rattle.automaton_text.specs.Text.{AreSpelled, HaveRowsBy, is_version};
 
-use crate::*;
+use automaton_text::{
+    Automaton, Location, OpenMark, first_marks, print_automaton, read_automaton, sorted_marks,
+};
 use flow_log::{Cause, Edge, Label};
 use memory_map::{Items, Name};
 use std::alloc::{AllocError, Global};
@@ -23,7 +25,7 @@ const PLACES_1: &[u8] =
     b"jakstab-automaton 1\nentry 08048000\nloc 08048000\nloc 08048002\nloc F0000000 -\nloc F0000010 puts\n";
 
 // Texts with the line and the kind of their first fault.
-const WHOLE: [(&[u8], u64, u8); 21] = [
+static WHOLE: [(&[u8], u64, u8); 21] = [
     (b"", 1, 7),
     (b"jakstab-automaton 2", 1, 7),
     (b"\n", 1, 1),
@@ -48,7 +50,7 @@ const WHOLE: [(&[u8], u64, u8); 21] = [
 ];
 
 // The same of what stands behind ENTRY.
-const AFTER_ENTRY: [(&[u8], u64, u8); 28] = [
+static AFTER_ENTRY: [(&[u8], u64, u8); 28] = [
     (b"", 3, 7),
     (b"loc 08048000\n", 4, 7),
     (b"loc 08048001\nxyz", 4, 7),
@@ -80,7 +82,7 @@ const AFTER_ENTRY: [(&[u8], u64, u8); 28] = [
 ];
 
 // The same of edges behind PLACES.
-const EDGES: [(&[u8], u64, u8); 37] = [
+static EDGES: [(&[u8], u64, u8); 37] = [
     (b"edge\n", 7, 3),
     (b"edge 08048000\n", 7, 3),
     (b"edge 08048000 0804800\n", 7, 3),
@@ -157,7 +159,7 @@ const EDGES: [(&[u8], u64, u8); 37] = [
 ];
 
 // The same of marks and ends.
-const MARKS: [(&[u8], u64, u8); 29] = [
+static MARKS: [(&[u8], u64, u8); 29] = [
     (b"open\n", 7, 3),
     (b"open 08048000\n", 7, 3),
     (b"open 08048000 bytes\n", 7, 3),
@@ -194,7 +196,7 @@ const MARKS: [(&[u8], u64, u8); 29] = [
 ];
 
 // The same behind PLACES_1.
-const VERSION_1: [(&[u8], u64, u8); 4] = [
+static VERSION_1: [(&[u8], u64, u8); 4] = [
     (b"open 08048000 bytes\n", 8, 7),
     (b"open 08048000 bytes 0\n", 7, 3),
     (b"open 08048000 bytes\nopen 08048000 bytes\n", 8, 4),
@@ -217,10 +219,10 @@ fn first_fault(alloc: Global, text: &[u8]) -> Option<(u64, u8)> {
 
 #[test]
 fn a_text_is_refused_at_its_first_bad_line(rt: HostRuntime) -> Result<(), Fail> {
-    for (text, line, kind) in WHOLE {
+    for (text, line, kind) in &WHOLE {
         assert_eq!(rt;
             first_fault(rt.alloc(), text),
-            Some((line, kind)),
+            Some((*line, *kind)),
             "{text:?}"
         );
     }
@@ -229,11 +231,11 @@ fn a_text_is_refused_at_its_first_bad_line(rt: HostRuntime) -> Result<(), Fail> 
 
 #[test]
 fn locations_ascend_and_hold_the_entry(rt: HostRuntime) -> Result<(), Fail> {
-    for (rest, line, kind) in AFTER_ENTRY {
+    for (rest, line, kind) in &AFTER_ENTRY {
         let text = joined(rt.alloc(), ENTRY, rest)?;
         assert_eq!(rt;
             first_fault(rt.alloc(), &text),
-            Some((line, kind)),
+            Some((*line, *kind)),
             "{rest:?}"
         );
     }
@@ -242,11 +244,11 @@ fn locations_ascend_and_hold_the_entry(rt: HostRuntime) -> Result<(), Fail> {
 
 #[test]
 fn edges_ascend_and_are_between_locations(rt: HostRuntime) -> Result<(), Fail> {
-    for (rest, line, kind) in EDGES {
+    for (rest, line, kind) in &EDGES {
         let text = joined(rt.alloc(), PLACES, rest)?;
         assert_eq!(rt;
             first_fault(rt.alloc(), &text),
-            Some((line, kind)),
+            Some((*line, *kind)),
             "{rest:?}"
         );
     }
@@ -255,19 +257,19 @@ fn edges_ascend_and_are_between_locations(rt: HostRuntime) -> Result<(), Fail> {
 
 #[test]
 fn marks_have_rows_and_counts_are_true(rt: HostRuntime) -> Result<(), Fail> {
-    for (rest, line, kind) in MARKS {
+    for (rest, line, kind) in &MARKS {
         let text = joined(rt.alloc(), PLACES, rest)?;
         assert_eq!(rt;
             first_fault(rt.alloc(), &text),
-            Some((line, kind)),
+            Some((*line, *kind)),
             "{rest:?}"
         );
     }
-    for (rest, line, kind) in VERSION_1 {
+    for (rest, line, kind) in &VERSION_1 {
         let text = joined(rt.alloc(), PLACES_1, rest)?;
         assert_eq!(rt;
             first_fault(rt.alloc(), &text),
-            Some((line, kind)),
+            Some((*line, *kind)),
             "{rest:?}"
         );
     }

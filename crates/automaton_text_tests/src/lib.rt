@@ -1,0 +1,5 @@
+// The tests of automaton_text.
+#![tactic(auto)]
+
+#[cfg(test)]
+mod tests;
