@@ -7,8 +7,6 @@ mod decoder;
 mod fault;
 mod operands;
 mod prefix_bytes;
-#[cfg(test)]
-mod tests;
 
 pub use decoder::decode;
 pub use fault::DecodeFault;

@@ -1,7 +1,7 @@
-use crate::{DecodeFault, decode};
 use std::alloc::Global;
 use std::process::Abort;
 use std::test::Fail;
+use x86_decoder::{DecodeFault, decode};
 use x86_syntax::write_instr;
 
 /// Bytes in hexadecimal, and the text of the instruction that they are, at the address 08048000.
