@@ -1,4 +1,3 @@
-use crate::lift;
 use bit_words::{Flags, Width};
 use bitflags::Flags as _;
 use memory_map::{Choice, FaultKind, Items, Regs};
@@ -7,6 +6,7 @@ use std::alloc::Global;
 use std::process::Abort;
 use std::test::Fail;
 use x86_decoder::decode;
+use x86_lifter::lift;
 use x86_semantics::{Operation, operation_of};
 use x86_syntax::Mnemonic;
 
