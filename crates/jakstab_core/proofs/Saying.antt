@@ -144,23 +144,23 @@ not_longer (Some held) contents limit name bytes tells content short longer =
     let long : limit < length bytes = subst P there longer in
     omega arith
 
-module _ (r : Reading) (contents : Contents) (tells : r.held ≡ Some contents) where
-  held_read : (limit : ℕ) (kind : Kind) (origin : Origin) → IsHeldFrom r contents limit kind origin → IsUnread r origin → ⊥
+module _ (r : Reading) where
+  held_read : (limit : ℕ) (kind : Kind) (origin : Origin) → IsHeldFrom r limit kind origin → IsUnread r origin → ⊥
   held_read limit kind (File name) h unread = h.3 unread
   held_read limit kind (Made made) h unread = unread
 
-  held_short : (limit : ℕ) (kind : Kind) (origin : Origin) → IsHeldFrom r contents limit kind origin → IsTooLong r.held limit origin → ⊥
-  held_short limit kind (File name) h long = not_longer r.held contents limit name h.0 tells h.1 h.2 long
+  held_short : (limit : ℕ) (kind : Kind) (origin : Origin) → IsHeldFrom r limit kind origin → IsTooLong r.held limit origin → ⊥
+  held_short limit kind (File name) h long = not_longer r.held h.1.contents limit name h.0 h.1.tells h.1.there h.2 long
   held_short limit kind (Made made) h long = long
 
-  held_faultless : (limit : ℕ) (kind : Kind) (origin : Origin) → IsHeldFrom r contents limit kind origin → (bytes : List ℕ) → IsFrom r.held limit origin bytes → (status : Status) → IsFaulty kind bytes status → ⊥
+  held_faultless : (limit : ℕ) (kind : Kind) (origin : Origin) → IsHeldFrom r limit kind origin → (bytes : List ℕ) → IsFrom r.held limit origin bytes → (status : Status) → IsFaulty kind bytes status → ⊥
   held_faultless limit kind (File name) h bytes whole status faulty =
       let P : List ℕ → Type 0 = λ l. IsFaulty kind l status in
-      h.4 status (subst P (held_is r.held contents limit name h.0 bytes tells h.1 whole) faulty)
+      h.4 status (subst P (held_is r.held h.1.contents limit name h.0 bytes h.1.tells h.1.there whole) faulty)
   held_faultless limit kind (Made made) h bytes whole status faulty =
       let P : List ℕ → Type 0 = λ l. IsFaulty kind l status in h status (subst P whole faulty)
 
-  held_not_refused : (sources : List Source) → AreHeld r contents sources → (status : Status) → AreRefused r sources status → ⊥
+  held_not_refused : (sources : List Source) → AreHeld r sources → (status : Status) → AreRefused r sources status → ⊥
   held_not_refused [] h status why = why
   held_not_refused (s ∷ rest) h status (inl (inl why)) = held_read (limit_of s.input) s.kind s.origin h.0 why.1
   held_not_refused (s ∷ rest) h status (inl (inr (inl why))) = held_short (limit_of s.input) s.kind s.origin h.0 why.1
@@ -169,7 +169,7 @@ module _ (r : Reading) (contents : Contents) (tells : r.held ≡ Some contents) 
 
 module _ (a : Call) (out : Gain) (f : IsFaultless a out) where
   neither : (status : Status) → IsCommandRefused a.shelf f.command status → ⊥
-  neither status (inl why) = held_not_refused a.shelf f.contents f.tells (sources_of f.command) f.inputs status why
+  neither status (inl why) = held_not_refused a.shelf (sources_of f.command) f.inputs status why
   neither status (inr why) = f.starts status why
 
   not_refused : (command : Command) (status : Status) → command ≡ f.command → IsCommandRefused a.shelf command status → ⊥

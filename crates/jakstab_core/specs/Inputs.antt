@@ -189,12 +189,18 @@ IsUnstartable image start status = (fault : StartFault) × (started image start 
 
 -- ---- what is held
 
--- what a shelf that tells holds of an input is within its limit and not faulty, and no read of it failed
-abbrev pub IsHeldFrom : Reading → Contents → ℕ → Kind → Origin → Type 0
-IsHeldFrom r contents limit kind (File name) =
-    (bytes : List ℕ) × (contents name ≡ Some bytes) × (length bytes ≤ limit) × (IsUnread r (File name) → ⊥) × ((status : Status) → IsFaulty kind bytes status → ⊥)
-IsHeldFrom r contents limit kind (Made made) = (status : Status) → IsFaulty kind made status → ⊥
+-- a shelf that tells holds these bytes under a name
+pub record IsHeld (held : Option Contents) (name bytes : List ℕ) : Type 0 where
+  pub contents : Contents
+  pub tells : held ≡ Some contents
+  pub there : contents name ≡ Some bytes
 
-abbrev pub AreHeld : Reading → Contents → List Source → Type 0
-AreHeld r contents [] = ⊤
-AreHeld r contents (s ∷ rest) = IsHeldFrom r contents (limit_of s.input) s.kind s.origin × AreHeld r contents rest
+-- what is held of an input is within its limit and not faulty, and no read of it failed
+abbrev pub IsHeldFrom : Reading → ℕ → Kind → Origin → Type 0
+IsHeldFrom r limit kind (File name) =
+    (bytes : List ℕ) × IsHeld r.held name bytes × (length bytes ≤ limit) × (IsUnread r (File name) → ⊥) × ((status : Status) → IsFaulty kind bytes status → ⊥)
+IsHeldFrom r limit kind (Made made) = (status : Status) → IsFaulty kind made status → ⊥
+
+abbrev pub AreHeld : Reading → List Source → Type 0
+AreHeld r [] = ⊤
+AreHeld r (s ∷ rest) = IsHeldFrom r (limit_of s.input) s.kind s.origin × AreHeld r rest

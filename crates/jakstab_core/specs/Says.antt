@@ -90,9 +90,7 @@ IsUsageExact status a = (status ≡ Usage → command_of a.words ≡ None) × (c
 pub record IsFaultless (a : Call) (out : Gain) : Type 0 where
   pub command : Command
   pub accepted : command_of a.words ≡ Some command
-  pub contents : Contents
-  pub tells : a.shelf.held ≡ Some contents
-  pub inputs : AreHeld a.shelf contents (sources_of command)
+  pub inputs : AreHeld a.shelf (sources_of command)
   pub starts : (status : Status) → IsStartless a.shelf.held command status → ⊥
   pub written : Rose out.faults_before out.faults_after → ⊥
 

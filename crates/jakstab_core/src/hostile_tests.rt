@@ -1,15 +1,18 @@
-// Damaged images, and an outside that fails: what no other test of these shows. The rows of `run` and `replay` stand with
-// those commands.
-use crate::tests::{SELF_JUMP, changed, file_with, sink, words_of};
-use crate::{Input, Status, jakstab};
-use automaton_text::read_automaton;
+// Damaged images and texts, and an outside that fails, for each command.
+use crate::calls::{
+    Content, File, SURE, call, call_over, changed, check_ended, file_with, shelf_of,
+};
+use crate::run_tests::{CODE, OTHER_RECORD, RECORD, START, UNALIGNED_RECORD, UNALIGNED_START};
+use crate::tests::{OVERLAP, SELF_JUMP};
+use crate::{Input, Status};
 use demo_images::form_p;
-use outside_io::{MemoryShelf, Shelf, ShelfFault};
+use outside_io::{Shelf, ShelfFault};
 use std::alloc::Global;
 use std::process::Abort;
 use std::test::Fail;
 use std::thread::Threads;
-use text_fields::TextFault;
+
+// ---- damaged files
 
 // The lengths to which a file is cut, the first and the last; a place in it and the bytes that stand there instead; and
 // the number of the fault that it then has.
@@ -60,16 +63,11 @@ fn check_refused<R: Abort + Threads + Sync>(
     number: u32,
 ) -> Result<(), Fail> {
     let size = file.len();
-    let mut shelf = MemoryShelf::new(alloc, Vec::new(alloc));
-    shelf.put("i", Vec::from_slice(alloc, file)?)?;
-    let mut out = sink(alloc, 4096, Vec::new(alloc))?;
-    let mut note = sink(alloc, 4096, Vec::new(alloc))?;
-    let words = words_of(alloc, &["recover", "i"])?;
-    let status = jakstab(rt, alloc, &words, &mut shelf, &mut out, &mut note);
-    assert_eq!(rt; status, Status::ImageRefused(number), "{size} bytes");
-    assert!(rt; out.written().is_empty(), "{size} bytes");
+    let ended = call_over(rt, alloc, &["recover", "i"], file, "")?;
+    assert_eq!(rt; ended.status, Status::ImageRefused(number), "{size} bytes");
+    assert!(rt; ended.out.written().is_empty(), "{size} bytes");
     let line = format!(in alloc; "jakstab: image refused {number}\n")?;
-    assert_eq!(rt; note.written(), line.as_bytes(), "{size} bytes");
+    assert_eq!(rt; ended.note.written(), line.as_bytes(), "{size} bytes");
     Ok(())
 }
 
@@ -109,239 +107,650 @@ fn damaged_images_are_refused_for_their_first_fault(rt: HostRuntime) -> Result<(
     check_each(&rt, alloc, &file, &PE)
 }
 
-// Texts of automata with the line and the kind of their first fault.
-static TEXTS: [(&str, u64, u8); 3] = [
-    ("", 1, 7),
-    (
-        "jakstab-automaton 2\nentry 08048001\nloc 08048000\nedge 08048000 08048000 EBFE jmp 08048000\nend 1 1 0\n",
-        2,
-        6,
-    ),
-    (
-        "jakstab-automaton 2\nentry 08048000\nloc 08048000\nedge 08048000 08048000 EBFE jmp 08048000\nend 1 1 0\nx",
-        6,
-        7,
-    ),
-];
+// ---- each command
 
-#[test]
-fn damaged_automata_are_refused_at_their_first_bad_line(rt: HostRuntime) -> Result<(), Fail> {
-    for (text, line, kind) in &TEXTS {
-        let place = match read_automaton(rt.alloc(), text.as_bytes()) {
-            Err(TextFault::Line(fault)) => Some((fault.line, fault.kind)),
-            _ => None,
-        };
-        assert_eq!(rt; place, Some((*line, *kind)), "{text}");
-    }
-    Ok(())
-}
+const IMAGE: File = ("i", Content::Code(b"\xEB\xFE"));
 
-// The words of a command; the numbers of the read, of the write of 16 bytes and of the note of 16 bytes that fail; the
-// status; how many bytes of the text are written; and what is noted.
-type Outside = (
+const MOVING: File = ("i", Content::Code(CODE));
+
+const EMPTY: File = ("i", Content::Bytes(b""));
+
+const STUBS: File = ("s", Content::Text("stack_align = 16\n"));
+
+const BAD_STUBS: File = ("s", Content::Text("["));
+
+const STARTED: File = ("t", Content::Text(START));
+
+const TOLD: File = ("a", Content::Text(OVERLAP));
+
+const RECORDED: File = ("r", Content::Text(RECORD));
+
+const LISTED: &str = "\
+jakstab-list 1
+format elf32
+entry 08048000
+segment 08048000 00000002 r-x
+end
+";
+
+const DECODED: &str = "jakstab-decode 1\n08048000 EBFE jmp 08048000\nend 1\n";
+
+const SUMMARY: &str = "demo 1 rows 27 locations 16 edges 19 opens 0\n";
+
+// The words of a command, the files, the inputs in the order in which they are read, the status and the text.
+type Command = (
     &'static [&'static str],
-    u64,
-    u64,
-    u64,
+    &'static [File],
+    &'static [Input],
     Status,
-    usize,
     &'static str,
 );
 
-const JUMP: &[&str] = &["recover", "i"];
-
-const JUMP_WITH_STUBS: &[&str] = &["recover", "--stubs", "s", "i"];
-
-const EMPTY: &[&str] = &["recover", "e"];
-
-const EMPTY_WITH_STUBS: &[&str] = &["recover", "--stubs=s", "e"];
-
-static OUTSIDE: [Outside; 13] = [
+static COMMANDS: [Command; 9] = [
     (
-        JUMP_WITH_STUBS,
-        1,
-        9,
-        9,
-        Status::ReadFault(Input::Image),
-        0,
-        "jakstab: cannot read image\n",
+        &["recover", "i"],
+        &[IMAGE],
+        &[Input::Image],
+        Status::Done,
+        SELF_JUMP,
     ),
     (
-        JUMP_WITH_STUBS,
-        2,
-        9,
-        9,
-        Status::ReadFault(Input::Stubs),
-        0,
-        "jakstab: cannot read stubs\n",
-    ),
-    (JUMP_WITH_STUBS, 3, 8, 1, Status::Done, 99, ""),
-    (
-        EMPTY_WITH_STUBS,
-        2,
-        9,
-        9,
-        Status::ImageRefused(200),
-        0,
-        "jakstab: image refused 200\n",
-    ),
-    (EMPTY, 9, 9, 1, Status::ImageRefused(200), 0, ""),
-    (
-        EMPTY,
-        9,
-        9,
-        2,
-        Status::ImageRefused(200),
-        0,
-        "jakstab: image r",
+        &["recover", "--stubs", "s", "i"],
+        &[IMAGE, STUBS],
+        &[Input::Image, Input::Stubs],
+        Status::Done,
+        SELF_JUMP,
     ),
     (
-        EMPTY,
-        9,
-        1,
-        3,
-        Status::ImageRefused(200),
-        0,
-        "jakstab: image refused 200\n",
+        &["list", "--stubs", "s", "i"],
+        &[IMAGE, STUBS],
+        &[Input::Image, Input::Stubs],
+        Status::Done,
+        LISTED,
     ),
     (
-        JUMP,
-        9,
-        1,
-        9,
-        Status::WriteFault,
-        0,
-        "jakstab: cannot write\n",
+        &["decode", "i", "08048000", "1"],
+        &[IMAGE],
+        &[Input::Image],
+        Status::Done,
+        DECODED,
     ),
     (
-        JUMP,
-        9,
-        7,
-        9,
-        Status::WriteFault,
-        96,
-        "jakstab: cannot write\n",
-    ),
-    (JUMP, 9, 7, 1, Status::WriteFault, 96, ""),
-    (JUMP, 9, 7, 2, Status::WriteFault, 96, "jakstab: cannot "),
-    (
-        &["recover", "--stubs", "m", "i"],
-        9,
-        9,
-        9,
-        Status::ReadFault(Input::Stubs),
-        0,
-        "jakstab: cannot read stubs\n",
+        &["run", "i", "--stubs", "s", "t", "10"],
+        &[MOVING, STUBS, STARTED],
+        &[Input::Image, Input::Stubs, Input::First],
+        Status::Done,
+        RECORD,
     ),
     (
-        &["recover", "--stubs", "i"],
-        1,
-        9,
-        9,
-        Status::Usage,
-        0,
-        "jakstab: usage\n",
+        &["replay", "i", "a", "r", "--stubs", "s"],
+        &[MOVING, STUBS, TOLD, RECORDED],
+        &[Input::Image, Input::Stubs, Input::First, Input::Second],
+        Status::Done,
+        "inside 2\n",
     ),
+    (
+        &["replay", "i", "a", "r"],
+        &[MOVING, TOLD, ("r", Content::Text(OTHER_RECORD))],
+        &[Input::Image, Input::First, Input::Second],
+        Status::VerdictNo,
+        "notarun 1 to\n",
+    ),
+    (
+        &["replay", "i", "a", "r"],
+        &[MOVING, ("a", Content::Text(SELF_JUMP)), RECORDED],
+        &[Input::Image, Input::First, Input::Second],
+        Status::VerdictNo,
+        "notanedge 0 08048000 08048001\n",
+    ),
+    (&["demo", "1"], &[], &[], Status::Done, SUMMARY),
 ];
 
-// A shelf with a jump to itself, an empty file and a stub file, whose read of this number fails.
-fn shelf(alloc: Global, read: u64) -> Result<MemoryShelf, Fail> {
-    let mut shelf = MemoryShelf::new(alloc, vec![in alloc; read]?);
-    shelf.put("i", file_with(alloc, b"\xEB\xFE")?)?;
-    shelf.put("e", Vec::new(alloc))?;
-    shelf.put("s", b"stack_align = 16\n".to_vec(alloc)?)?;
-    Ok(shelf)
+fn unread_line(input: Input) -> &'static str {
+    match input {
+        Input::Image => "jakstab: cannot read image\n",
+        Input::Stubs => "jakstab: cannot read stubs\n",
+        Input::First => "jakstab: cannot read first\n",
+        Input::Second => "jakstab: cannot read second\n",
+    }
 }
 
-fn check_outside<R: Abort + Threads + Sync>(
+// The read of this number fails, which is that of an input.
+fn check_unread<R: Abort + Threads + Sync>(
     rt: &R,
     alloc: Global,
-    call: &Outside,
+    words: &[&str],
+    files: &[File],
+    read: u64,
+    input: Input,
 ) -> Result<(), Fail> {
-    let (words, read, write, noting, want, held, told) = call;
-    let words = words_of(alloc, words)?;
-    let mut shelf = shelf(alloc, *read)?;
-    let mut out = sink(alloc, 16, vec![in alloc; *write]?)?;
-    let mut note = sink(alloc, 16, vec![in alloc; *noting]?)?;
-    let status = jakstab(rt, alloc, &words, &mut shelf, &mut out, &mut note);
-    assert_eq!(rt; status, *want, "{read} {write} {noting}");
-    assert_eq!(rt; out.written().len(), *held, "{read} {write} {noting}");
-    assert!(rt;
-        SELF_JUMP.as_bytes().starts_with(out.written()),
-        "{read} {write} {noting}"
-    );
-    assert_eq!(rt; note.written(), told.as_bytes(), "{read} {write} {noting}");
+    let mut shelf = shelf_of(alloc, files, read)?;
+    let ended = call(rt, alloc, words, &mut shelf, SURE)?;
+    assert_eq!(rt; ended.status, Status::ReadFault(input), "read {read}");
+    assert!(rt; ended.out.written().is_empty(), "read {read}");
+    assert_eq!(rt; ended.note.written(), unread_line(input).as_bytes());
     Ok(())
 }
 
-#[test]
-fn each_failing_call_of_the_outside_is_answered(rt: HostRuntime) -> Result<(), Fail> {
-    let alloc = rt.alloc();
-    for call in &OUTSIDE {
-        check_outside(&rt, alloc, call)?;
+fn check_reads<R: Abort + Threads + Sync>(
+    rt: &R,
+    alloc: Global,
+    command: &Command,
+) -> Result<(), Fail> {
+    let (words, files, inputs, _, _) = command;
+    for (i, input) in inputs.iter().enumerate() {
+        let read = (i as u64).saturating_add(1);
+        check_unread(rt, alloc, words, files, read, *input)?;
     }
     Ok(())
 }
 
-// The stub file is not read: the second read is the test's own.
 #[test]
-fn nothing_is_read_after_an_image_that_is_refused(rt: HostRuntime) -> Result<(), Fail> {
+fn each_read_that_fails_is_told(rt: HostRuntime) -> Result<(), Fail> {
     let alloc = rt.alloc();
-    let words = words_of(alloc, EMPTY_WITH_STUBS)?;
-    let mut shelf = shelf(alloc, 2)?;
-    let mut out = sink(alloc, 16, Vec::new(alloc))?;
-    let mut note = sink(alloc, 64, Vec::new(alloc))?;
-    let status = jakstab(&rt, alloc, &words, &mut shelf, &mut out, &mut note);
-    assert_eq!(rt; status, Status::ImageRefused(200));
-    assert_eq!(rt;
-        shelf.read_whole(alloc, "e", 9).err(),
-        Some(ShelfFault::Failed)
-    );
+    for command in &COMMANDS {
+        check_reads(&rt, alloc, command)?;
+    }
     Ok(())
 }
 
-// The name of a file of so many bytes 0, and how its reading ends.
-static LENGTHS: [(&str, usize, Status, &str); 4] = [
+// What is not read is not tried: the automaton, whose second line is not in its form, cannot be read.
+#[test]
+fn a_read_that_fails_tells_nothing_of_the_text(rt: HostRuntime) -> Result<(), Fail> {
+    let alloc = rt.alloc();
+    let files = &[MOVING, STUBS, ("a", Content::Text(NO_DIGIT)), RECORDED];
+    check_unread(&rt, alloc, REPLAY, files, 3, Input::First)
+}
+
+// Writes take 16 bytes, and that of the index i fails, before which 16 * i bytes were written.
+fn check_unwritten<R: Abort + Threads + Sync>(
+    rt: &R,
+    alloc: Global,
+    command: &Command,
+    i: usize,
+) -> Result<(), Fail> {
+    let (words, files, _, status, text) = command;
+    let held = i.saturating_mul(16).min(text.len());
+    let (want, told) = if held < text.len() {
+        (Status::WriteFault, "jakstab: cannot write\n")
+    } else {
+        (*status, "")
+    };
+    let mut shelf = shelf_of(alloc, files, 0)?;
+    let sinks = ((i as u64).saturating_add(1), 0, 16);
+    let ended = call(rt, alloc, words, &mut shelf, sinks)?;
+    assert_eq!(rt; ended.status, want, "write {i}");
+    assert_eq!(rt; ended.out.written(), &text.as_bytes()[..held], "write {i}");
+    assert_eq!(rt; ended.note.written(), told.as_bytes(), "write {i}");
+    Ok(())
+}
+
+fn check_writes<R: Abort + Threads + Sync>(
+    rt: &R,
+    alloc: Global,
+    command: &Command,
+) -> Result<(), Fail> {
+    for i in 0..=command.4.len().div_ceil(16) {
+        check_unwritten(rt, alloc, command, i)?;
+    }
+    Ok(())
+}
+
+#[test]
+fn each_write_that_fails_ends_the_text(rt: HostRuntime) -> Result<(), Fail> {
+    let alloc = rt.alloc();
+    for command in &COMMANDS {
+        check_writes(&rt, alloc, command)?;
+    }
+    Ok(())
+}
+
+fn check_short_writes<R: Abort + Threads + Sync>(
+    rt: &R,
+    alloc: Global,
+    command: &Command,
+) -> Result<(), Fail> {
+    let (words, files, _, status, text) = command;
+    for per_write in 1..=text.len() {
+        let mut shelf = shelf_of(alloc, files, 0)?;
+        let ended = call(rt, alloc, words, &mut shelf, (0, 0, per_write))?;
+        check_ended(rt, &ended, *status, text);
+    }
+    Ok(())
+}
+
+#[test]
+fn short_writes_write_the_whole_text(rt: HostRuntime) -> Result<(), Fail> {
+    let alloc = rt.alloc();
+    for command in &COMMANDS {
+        check_short_writes(&rt, alloc, command)?;
+    }
+    Ok(())
+}
+
+// ---- the order of refusals
+
+// The words, the files, how many reads are made, the status, and the line on `note`.
+type Refusal = (
+    &'static [&'static str],
+    &'static [File],
+    u64,
+    Status,
+    &'static str,
+);
+
+const RECOVER: &[&str] = &["recover", "--stubs", "s", "i"];
+
+const LIST: &[&str] = &["list", "--stubs", "s", "i"];
+
+const DECODE: &[&str] = &["decode", "i", "08048000", "1"];
+
+const RUN: &[&str] = &["run", "i", "t", "10", "--stubs", "s"];
+
+const REPLAY: &[&str] = &["replay", "i", "a", "r", "--stubs", "s"];
+
+const USAGE: &str = "jakstab: usage\n";
+
+const NO_IMAGE: &str = "jakstab: cannot read image\n";
+
+const NO_STUBS: &str = "jakstab: cannot read stubs\n";
+
+const NO_FORMAT: &str = "jakstab: image refused 200\n";
+
+const NO_TOML: &str = "jakstab: stubs refused 1\n";
+
+// No file is there where the words are refused.
+static USAGES: [Refusal; 8] = [
+    (&[], &[], 0, Status::Usage, USAGE),
+    (&["recover", "--stubs", "s"], &[], 0, Status::Usage, USAGE),
+    (&["list", "--stubs", "i"], &[], 0, Status::Usage, USAGE),
     (
+        &["decode", "i", "08048000", "0"],
+        &[],
+        0,
+        Status::Usage,
+        USAGE,
+    ),
+    (&["run", "i", "t", "1000001"], &[], 0, Status::Usage, USAGE),
+    (&["replay", "i", "a"], &[], 0, Status::Usage, USAGE),
+    (&["demo", "2001"], &[], 0, Status::Usage, USAGE),
+    (&["demo", "1", "--stubs", "s"], &[], 0, Status::Usage, USAGE),
+];
+
+// The image is read and tried before the stub file is read, and that is tried before any further input is read.
+static FIRST_REFUSALS: [Refusal; 18] = [
+    (RECOVER, &[], 1, Status::ReadFault(Input::Image), NO_IMAGE),
+    (LIST, &[], 1, Status::ReadFault(Input::Image), NO_IMAGE),
+    (DECODE, &[], 1, Status::ReadFault(Input::Image), NO_IMAGE),
+    (RUN, &[], 1, Status::ReadFault(Input::Image), NO_IMAGE),
+    (REPLAY, &[], 1, Status::ReadFault(Input::Image), NO_IMAGE),
+    (RECOVER, &[EMPTY], 1, Status::ImageRefused(200), NO_FORMAT),
+    (LIST, &[EMPTY], 1, Status::ImageRefused(200), NO_FORMAT),
+    (DECODE, &[EMPTY], 1, Status::ImageRefused(200), NO_FORMAT),
+    (RUN, &[EMPTY], 1, Status::ImageRefused(200), NO_FORMAT),
+    (REPLAY, &[EMPTY], 1, Status::ImageRefused(200), NO_FORMAT),
+    (
+        RECOVER,
+        &[IMAGE],
+        2,
+        Status::ReadFault(Input::Stubs),
+        NO_STUBS,
+    ),
+    (LIST, &[IMAGE], 2, Status::ReadFault(Input::Stubs), NO_STUBS),
+    (RUN, &[IMAGE], 2, Status::ReadFault(Input::Stubs), NO_STUBS),
+    (
+        REPLAY,
+        &[IMAGE],
+        2,
+        Status::ReadFault(Input::Stubs),
+        NO_STUBS,
+    ),
+    (
+        RECOVER,
+        &[IMAGE, BAD_STUBS],
+        2,
+        Status::StubsRefused(1),
+        NO_TOML,
+    ),
+    (
+        LIST,
+        &[IMAGE, BAD_STUBS],
+        2,
+        Status::StubsRefused(1),
+        NO_TOML,
+    ),
+    (
+        RUN,
+        &[IMAGE, BAD_STUBS],
+        2,
+        Status::StubsRefused(1),
+        NO_TOML,
+    ),
+    (
+        REPLAY,
+        &[IMAGE, BAD_STUBS],
+        2,
+        Status::StubsRefused(1),
+        NO_TOML,
+    ),
+];
+
+const REPLAY_ALONE: &[&str] = &["replay", "i", "a", "r"];
+
+const NO_DIGIT: &str = "jakstab-automaton 1\nentry 0804800\n";
+
+const OTHER_ENTRY: &str = "\
+jakstab-automaton 2
+entry 08048001
+loc 08048000
+edge 08048000 08048000 EBFE jmp 08048000
+end 1 1 0
+";
+
+const ONE_BYTE_MORE: &str = "\
+jakstab-automaton 2
+entry 08048000
+loc 08048000
+edge 08048000 08048000 EBFE jmp 08048000
+end 1 1 0
+x";
+
+// Each further input is tried before the next one is read, and then the start.
+static LATER_REFUSALS: [Refusal; 11] = [
+    (
+        RUN,
+        &[MOVING, STUBS],
+        3,
+        Status::ReadFault(Input::First),
+        "jakstab: cannot read first\n",
+    ),
+    (
+        RUN,
+        &[MOVING, STUBS, ("t", Content::Text(RECORD))],
+        3,
+        Status::InputRefused { line: 1, kind: 1 },
+        "jakstab: input refused 1 1\n",
+    ),
+    (
+        RUN,
+        &[MOVING, STUBS, ("t", Content::Text(UNALIGNED_START))],
+        3,
+        Status::InputRefused { line: 2, kind: 11 },
+        "jakstab: input refused 2 11\n",
+    ),
+    (
+        REPLAY,
+        &[MOVING, STUBS],
+        3,
+        Status::ReadFault(Input::First),
+        "jakstab: cannot read first\n",
+    ),
+    (
+        REPLAY,
+        &[MOVING, STUBS, ("a", Content::Text(NO_DIGIT))],
+        3,
+        Status::InputRefused { line: 2, kind: 3 },
+        "jakstab: input refused 2 3\n",
+    ),
+    (
+        REPLAY_ALONE,
+        &[MOVING, ("a", Content::Text(OTHER_ENTRY))],
+        2,
+        Status::InputRefused { line: 2, kind: 6 },
+        "jakstab: input refused 2 6\n",
+    ),
+    (
+        REPLAY_ALONE,
+        &[MOVING, ("a", Content::Text(ONE_BYTE_MORE))],
+        2,
+        Status::InputRefused { line: 6, kind: 7 },
+        "jakstab: input refused 6 7\n",
+    ),
+    (
+        REPLAY,
+        &[MOVING, STUBS, TOLD],
+        4,
+        Status::ReadFault(Input::Second),
+        "jakstab: cannot read second\n",
+    ),
+    (
+        REPLAY,
+        &[MOVING, STUBS, TOLD, ("r", Content::Text(START))],
+        4,
+        Status::InputRefused { line: 1, kind: 1 },
+        "jakstab: input refused 1 1\n",
+    ),
+    (
+        REPLAY,
+        &[MOVING, STUBS, TOLD, ("r", Content::Text(UNALIGNED_RECORD))],
+        4,
+        Status::InputRefused { line: 2, kind: 11 },
+        "jakstab: input refused 2 11\n",
+    ),
+    (
+        REPLAY_ALONE,
+        &[
+            MOVING,
+            ("a", Content::Text(NO_DIGIT)),
+            ("r", Content::Text(UNALIGNED_RECORD)),
+        ],
+        2,
+        Status::InputRefused { line: 2, kind: 3 },
+        "jakstab: input refused 2 3\n",
+    ),
+];
+
+// The read behind the last one of the call is the test's own, which fails by its number.
+fn check_refusal<R: Abort + Threads + Sync>(
+    rt: &R,
+    alloc: Global,
+    refusal: &Refusal,
+) -> Result<(), Fail> {
+    let (words, files, reads, want, told) = refusal;
+    let mut shelf = shelf_of(alloc, files, reads.saturating_add(1))?;
+    shelf.put("z", Vec::new(alloc))?;
+    let ended = call(rt, alloc, words, &mut shelf, SURE)?;
+    assert_eq!(rt; ended.status, *want, "{told}");
+    assert!(rt; ended.out.written().is_empty(), "{told}");
+    assert_eq!(rt; ended.note.written(), told.as_bytes(), "{told}");
+    let read = shelf.read_whole(alloc, "z", 9).err();
+    assert_eq!(rt; read, Some(ShelfFault::Failed), "{told}");
+    Ok(())
+}
+
+fn check_refusals<R: Abort + Threads + Sync>(
+    rt: &R,
+    alloc: Global,
+    refusals: &[Refusal],
+) -> Result<(), Fail> {
+    for refusal in refusals {
+        check_refusal(rt, alloc, refusal)?;
+    }
+    Ok(())
+}
+
+#[test]
+fn the_first_refusal_is_told_and_nothing_more_is_read(rt: HostRuntime) -> Result<(), Fail> {
+    let alloc = rt.alloc();
+    check_refusals(&rt, alloc, &USAGES)?;
+    check_refusals(&rt, alloc, &FIRST_REFUSALS)?;
+    check_refusals(&rt, alloc, &LATER_REFUSALS)
+}
+
+// ---- lengths
+
+// The words, the name of a file of so many bytes 0, and how its reading ends.
+type Length = (
+    &'static [&'static str],
+    &'static str,
+    usize,
+    Status,
+    &'static str,
+);
+
+static LENGTHS: [Length; 4] = [
+    (
+        RECOVER,
         "i",
         16_777_217,
         Status::TooLong(Input::Image),
         "jakstab: too long image\n",
     ),
     (
+        RECOVER,
         "i",
         16_777_216,
         Status::ImageRefused(200),
-        "jakstab: image refused 200\n",
+        NO_FORMAT,
     ),
     (
+        LIST,
         "s",
         1_048_577,
         Status::TooLong(Input::Stubs),
         "jakstab: too long stubs\n",
     ),
+    (LIST, "s", 1_048_576, Status::StubsRefused(1), NO_TOML),
+];
+
+static FURTHER_LENGTHS: [Length; 2] = [
     (
-        "s",
-        1_048_576,
-        Status::StubsRefused(1),
-        "jakstab: stubs refused 1\n",
+        RUN,
+        "t",
+        67_108_865,
+        Status::TooLong(Input::First),
+        "jakstab: too long first\n",
+    ),
+    (
+        REPLAY,
+        "r",
+        67_108_865,
+        Status::TooLong(Input::Second),
+        "jakstab: too long second\n",
     ),
 ];
 
+fn check_length<R: Abort + Threads + Sync>(
+    rt: &R,
+    alloc: Global,
+    length: &Length,
+) -> Result<(), Fail> {
+    let (words, name, size, want, told) = length;
+    let mut shelf = shelf_of(alloc, &[MOVING, STUBS, STARTED, TOLD, RECORDED], 0)?;
+    let zeros: Vec<u8> = vec![in alloc; 0; *size]?;
+    shelf.put(name, zeros)?;
+    let ended = call(rt, alloc, words, &mut shelf, SURE)?;
+    assert_eq!(rt; ended.status, *want, "{name} of {size} bytes");
+    assert!(rt; ended.out.written().is_empty(), "{name} of {size} bytes");
+    assert_eq!(rt;
+        ended.note.written(),
+        told.as_bytes(),
+        "{name} of {size} bytes"
+    );
+    Ok(())
+}
+
 #[test]
-fn files_are_read_up_to_their_limits(rt: HostRuntime) -> Result<(), Fail> {
+fn images_and_stub_files_are_read_up_to_their_limits(rt: HostRuntime) -> Result<(), Fail> {
     let alloc = rt.alloc();
-    let words = words_of(alloc, JUMP_WITH_STUBS)?;
-    for (name, size, want, told) in &LENGTHS {
-        let zeros: Vec<u8> = vec![in alloc; 0; *size]?;
-        let mut shelf = shelf(alloc, 9)?;
-        shelf.put(name, zeros)?;
-        let mut out = sink(alloc, 16, Vec::new(alloc))?;
-        let mut note = sink(alloc, 64, Vec::new(alloc))?;
-        let status = jakstab(&rt, alloc, &words, &mut shelf, &mut out, &mut note);
-        assert_eq!(rt; status, *want, "{name} of {size} bytes");
-        assert!(rt; out.written().is_empty(), "{name} of {size} bytes");
-        assert_eq!(rt; note.written(), told.as_bytes(), "{name} of {size} bytes");
+    for length in &LENGTHS {
+        check_length(&rt, alloc, length)?;
+    }
+    Ok(())
+}
+
+#[test]
+fn further_inputs_are_read_up_to_their_limit(rt: HostRuntime) -> Result<(), Fail> {
+    let alloc = rt.alloc();
+    for length in &FURTHER_LENGTHS {
+        check_length(&rt, alloc, length)?;
+    }
+    Ok(())
+}
+
+// ---- a `note` that fails
+
+// The words, the files, the number of the write that fails, the status, and its line.
+type Noting = (
+    &'static [&'static str],
+    &'static [File],
+    u64,
+    Status,
+    &'static str,
+);
+
+static NOTINGS: [Noting; 8] = [
+    (&[], &[], 0, Status::Usage, USAGE),
+    (RECOVER, &[], 0, Status::ReadFault(Input::Image), NO_IMAGE),
+    (RECOVER, &[EMPTY], 0, Status::ImageRefused(200), NO_FORMAT),
+    (
+        RECOVER,
+        &[IMAGE, BAD_STUBS],
+        0,
+        Status::StubsRefused(1),
+        NO_TOML,
+    ),
+    (
+        RUN,
+        &[MOVING, STUBS, ("t", Content::Text(UNALIGNED_START))],
+        0,
+        Status::InputRefused { line: 2, kind: 11 },
+        "jakstab: input refused 2 11\n",
+    ),
+    (
+        DECODE,
+        &[IMAGE],
+        1,
+        Status::WriteFault,
+        "jakstab: cannot write\n",
+    ),
+    (RECOVER, &[IMAGE, STUBS], 0, Status::Done, ""),
+    (
+        REPLAY,
+        &[MOVING, STUBS, TOLD, ("r", Content::Text(OTHER_RECORD))],
+        0,
+        Status::VerdictNo,
+        "",
+    ),
+];
+
+// Notes take 16 bytes, and that of the index i fails.
+fn check_unnoted<R: Abort + Threads + Sync>(
+    rt: &R,
+    alloc: Global,
+    noting: &Noting,
+    i: usize,
+) -> Result<(), Fail> {
+    let (words, files, write, want, told) = noting;
+    let held = i.saturating_mul(16).min(told.len());
+    let mut shelf = shelf_of(alloc, files, 0)?;
+    let sinks = (*write, (i as u64).saturating_add(1), 16);
+    let ended = call(rt, alloc, words, &mut shelf, sinks)?;
+    assert_eq!(rt; ended.status, *want, "note {i}: {told}");
+    assert_eq!(rt;
+        ended.note.written(),
+        &told.as_bytes()[..held],
+        "note {i}: {told}"
+    );
+    Ok(())
+}
+
+fn check_noting<R: Abort + Threads + Sync>(
+    rt: &R,
+    alloc: Global,
+    noting: &Noting,
+) -> Result<(), Fail> {
+    for i in 0..=noting.4.len().div_ceil(16) {
+        check_unnoted(rt, alloc, noting, i)?;
+    }
+    Ok(())
+}
+
+#[test]
+fn notes_that_fail_change_no_status(rt: HostRuntime) -> Result<(), Fail> {
+    let alloc = rt.alloc();
+    for noting in &NOTINGS {
+        check_noting(&rt, alloc, noting)?;
     }
     Ok(())
 }

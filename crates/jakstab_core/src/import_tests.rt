@@ -1,12 +1,6 @@
+use crate::calls::{Content, check_end};
 use crate::sample_files::GREET;
-use crate::tests::{sink, words_of};
-use crate::{Status, jakstab};
-use demo_images::{Import, form_d, form_p};
-use outside_io::MemoryShelf;
-use std::alloc::Global;
-use std::process::Abort;
 use std::test::Fail;
-use std::thread::Threads;
 
 const MALLOC: &str = "[stub.malloc]\nargs = 4\nreply = \"block\"\nsize_arg = 0\nmay_fail = true\n";
 
@@ -86,27 +80,6 @@ edge F0000020 080481EA import malloc
 end 26 27 0
 ";
 
-// Does `recover` with a stub file over a file, whose text is to end so.
-fn check_end<R: Abort + Threads + Sync>(
-    rt: &R,
-    alloc: Global,
-    words: &[&str],
-    file: Vec<u8>,
-    stubs: &str,
-    end: &str,
-) -> Result<(), Fail> {
-    let mut shelf = MemoryShelf::new(alloc, Vec::new(alloc));
-    shelf.put("i", file)?;
-    shelf.put("s", Vec::from_slice(alloc, stubs.as_bytes())?)?;
-    let mut out = sink(alloc, 4096, Vec::new(alloc))?;
-    let mut note = sink(alloc, 4096, Vec::new(alloc))?;
-    let words = words_of(alloc, words)?;
-    let status = jakstab(rt, alloc, &words, &mut shelf, &mut out, &mut note);
-    assert_eq!(rt; status, Status::Done, "{end}");
-    assert!(rt; out.written().ends_with(end.as_bytes()), "{end}");
-    Ok(())
-}
-
 const WITH_STUBS: &[&str] = &["recover", "--stubs", "s", "i"];
 
 // Without places in the stack the first push is open, before any import.
@@ -138,8 +111,8 @@ static CALLS: [(&[u8], &[u8], &[&str], &str, &str); 6] = [
 fn imports_are_followed_by_their_stubs(rt: HostRuntime) -> Result<(), Fail> {
     let alloc = rt.alloc();
     for (code, name, words, stubs, end) in &CALLS {
-        let file = form_d(alloc, code, &[Import::new(name, false)])?;
-        check_end(&rt, alloc, words, file, stubs, end)?;
+        let file = Content::Importing(code, name).bytes(alloc)?;
+        check_end(&rt, alloc, words, &file, stubs, end)?;
     }
     Ok(())
 }
@@ -147,8 +120,7 @@ fn imports_are_followed_by_their_stubs(rt: HostRuntime) -> Result<(), Fail> {
 #[test]
 fn functions_that_do_not_return_lead_nowhere(rt: HostRuntime) -> Result<(), Fail> {
     let alloc = rt.alloc();
-    let file = form_p(alloc, CALL_EXIT)?;
-    check_end(&rt, alloc, WITH_STUBS, file, EXIT, PE_EXIT)?;
-    let file = Vec::from_slice(alloc, &GREET)?;
-    check_end(&rt, alloc, WITH_STUBS, file, GREET_STUBS, GREETED)
+    let file = Content::Pe(CALL_EXIT).bytes(alloc)?;
+    check_end(&rt, alloc, WITH_STUBS, &file, EXIT, PE_EXIT)?;
+    check_end(&rt, alloc, WITH_STUBS, &GREET, GREET_STUBS, GREETED)
 }

@@ -1,7 +1,6 @@
-use crate::tests::{file_with, sink, words_of};
-use crate::{Input, Status, jakstab};
-use demo_images::{Import, form_d, form_e, form_p};
-use outside_io::MemoryShelf;
+use crate::calls::{Case, Content, check_case};
+use crate::tests::{check_text, writable_file};
+use crate::{Input, Status};
 use std::test::Fail;
 
 const SELF_JUMP: &str = "\
@@ -71,104 +70,132 @@ const CALL_MALLOC: &[u8] = b"\x6A\x08\xFF\x15\0\0\0\x09\xC6\0\x01\xF4";
 
 const EXIT: &[u8] = b"\x6A\0\xFF\x15\x34\x20\x40\0\xCC";
 
+static LISTS: [Case; 5] = [
+    (
+        &["list", "i"],
+        &[("i", Content::Code(b"\xEB\xFE"))],
+        Status::Done,
+        SELF_JUMP,
+    ),
+    (
+        &["list", "--stubs", "s", "i"],
+        &[
+            ("i", Content::Importing(CALL_MALLOC, b"malloc")),
+            ("s", Content::Text(MALLOC_STUB)),
+        ],
+        Status::Done,
+        MALLOC_BLOCK,
+    ),
+    (
+        &["list", "i", "--stubs=s"],
+        &[
+            ("i", Content::Importing(CALL_MALLOC, b"malloc")),
+            ("s", Content::Text(EXIT_STUB)),
+        ],
+        Status::Done,
+        MALLOC_BLOCK_ALONE,
+    ),
+    (
+        &["list", "--", "i"],
+        &[("i", Content::Importing(CALL_MALLOC, b"malloc"))],
+        Status::Done,
+        MALLOC_BLOCK_ALONE,
+    ),
+    (
+        &["list", "i", "--stubs", "s"],
+        &[("i", Content::Pe(EXIT)), ("s", Content::Text(EXIT_STUB))],
+        Status::Done,
+        PE_EXIT,
+    ),
+];
+
 #[test]
 fn images_are_listed_with_their_imports(rt: HostRuntime) -> Result<(), Fail> {
     let alloc = rt.alloc();
-    let malloc = [Import::new(b"malloc", false)];
-    let rows: [(Vec<u8>, &[&str], &str, &str); 6] = [
-        (
-            file_with(alloc, b"\xEB\xFE")?,
-            &["list", "i"],
-            "",
-            SELF_JUMP,
-        ),
-        (form_e(alloc, b"\xEB\xFE", 7)?, &["list", "i"], "", CHANGING),
-        (
-            form_d(alloc, CALL_MALLOC, &malloc)?,
-            &["list", "--stubs", "s", "i"],
-            MALLOC_STUB,
-            MALLOC_BLOCK,
-        ),
-        (
-            form_d(alloc, CALL_MALLOC, &malloc)?,
-            &["list", "i", "--stubs=s"],
-            EXIT_STUB,
-            MALLOC_BLOCK_ALONE,
-        ),
-        (
-            form_d(alloc, CALL_MALLOC, &malloc)?,
-            &["list", "--", "i"],
-            "",
-            MALLOC_BLOCK_ALONE,
-        ),
-        (
-            form_p(alloc, EXIT)?,
-            &["list", "i", "--stubs", "s"],
-            EXIT_STUB,
-            PE_EXIT,
-        ),
-    ];
-    for (image, words, stubs, want) in rows {
-        let mut shelf = MemoryShelf::new(alloc, Vec::new(alloc));
-        shelf.put("i", image)?;
-        shelf.put("s", Vec::from_slice(alloc, stubs.as_bytes())?)?;
-        let mut out = sink(alloc, 4096, Vec::new(alloc))?;
-        let mut note = sink(alloc, 4096, Vec::new(alloc))?;
-        let words = words_of(alloc, words)?;
-        let status = jakstab(&rt, alloc, &words, &mut shelf, &mut out, &mut note);
-        assert_eq!(rt; status, Status::Done, "{want}");
-        assert_eq!(rt; out.written(), want.as_bytes(), "{want}");
-        assert!(rt; note.written().is_empty(), "{want}");
+    for case in &LISTS {
+        check_case(&rt, alloc, case)?;
     }
-    Ok(())
+    let file = writable_file(alloc, b"\xEB\xFE")?;
+    check_text(&rt, alloc, &["list", "i"], &file, CHANGING)
 }
 
-// Stub files that are refused, and the number of the fault.
-const REFUSED: [(&str, u32); 5] = [
-    ("[", 1),
-    ("[stub.f]\nargs = 4\nreply = \"any\"\ncolour = 1\n", 2),
-    ("[stub.f]\nargs = 4\n", 3),
-    ("[stub.f]\nargs = 6\nreply = \"any\"\n", 4),
+const LIST: &[&str] = &["list", "--stubs", "s", "i"];
+
+// A stub file is read after the image, and refused for its first fault.
+static REFUSED: [Case; 8] = [
     (
-        "[stub.f]\nargs = 4\nreply = \"block\"\nsize = 8\nsize_arg = 0\n",
-        5,
+        LIST,
+        &[("i", Content::Code(b"\xEB\xFE")), ("s", Content::Text("["))],
+        Status::StubsRefused(1),
+        "",
+    ),
+    (
+        LIST,
+        &[
+            ("i", Content::Code(b"\xEB\xFE")),
+            (
+                "s",
+                Content::Text("[stub.f]\nargs = 4\nreply = \"any\"\ncolour = 1\n"),
+            ),
+        ],
+        Status::StubsRefused(2),
+        "",
+    ),
+    (
+        LIST,
+        &[
+            ("i", Content::Code(b"\xEB\xFE")),
+            ("s", Content::Text("[stub.f]\nargs = 4\n")),
+        ],
+        Status::StubsRefused(3),
+        "",
+    ),
+    (
+        LIST,
+        &[
+            ("i", Content::Code(b"\xEB\xFE")),
+            ("s", Content::Text("[stub.f]\nargs = 6\nreply = \"any\"\n")),
+        ],
+        Status::StubsRefused(4),
+        "",
+    ),
+    (
+        LIST,
+        &[
+            ("i", Content::Code(b"\xEB\xFE")),
+            (
+                "s",
+                Content::Text("[stub.f]\nargs = 4\nreply = \"block\"\nsize = 8\nsize_arg = 0\n"),
+            ),
+        ],
+        Status::StubsRefused(5),
+        "",
+    ),
+    (
+        LIST,
+        &[("i", Content::Bytes(b"MZ"))],
+        Status::ImageRefused(101),
+        "",
+    ),
+    (
+        LIST,
+        &[("i", Content::Bytes(b""))],
+        Status::ImageRefused(200),
+        "",
+    ),
+    (
+        LIST,
+        &[("i", Content::Code(b"\xEB\xFE"))],
+        Status::ReadFault(Input::Stubs),
+        "",
     ),
 ];
 
 #[test]
 fn stub_files_are_read_after_the_image(rt: HostRuntime) -> Result<(), Fail> {
     let alloc = rt.alloc();
-    let words = words_of(alloc, &["list", "--stubs", "s", "i"])?;
-    for (text, n) in REFUSED {
-        let mut shelf = MemoryShelf::new(alloc, Vec::new(alloc));
-        shelf.put("i", file_with(alloc, b"\xEB\xFE")?)?;
-        shelf.put("s", Vec::from_slice(alloc, text.as_bytes())?)?;
-        let mut out = sink(alloc, 4096, Vec::new(alloc))?;
-        let mut note = sink(alloc, 4096, Vec::new(alloc))?;
-        let status = jakstab(&rt, alloc, &words, &mut shelf, &mut out, &mut note);
-        assert_eq!(rt; status, Status::StubsRefused(n), "{text}");
-        assert!(rt; out.written().is_empty(), "{text}");
-        let line = format!(in alloc; "jakstab: stubs refused {n}\n")?;
-        assert_eq!(rt; note.written(), line.as_bytes(), "{text}");
+    for case in &REFUSED {
+        check_case(&rt, alloc, case)?;
     }
-    let images: [(&[u8], Status); 2] = [
-        (b"MZ", Status::ImageRefused(101)),
-        (b"", Status::ImageRefused(200)),
-    ];
-    for (image, want) in images {
-        let mut shelf = MemoryShelf::new(alloc, Vec::new(alloc));
-        shelf.put("i", Vec::from_slice(alloc, image)?)?;
-        let mut out = sink(alloc, 4096, Vec::new(alloc))?;
-        let mut note = sink(alloc, 4096, Vec::new(alloc))?;
-        let status = jakstab(&rt, alloc, &words, &mut shelf, &mut out, &mut note);
-        assert_eq!(rt; status, want);
-    }
-    let mut shelf = MemoryShelf::new(alloc, Vec::new(alloc));
-    shelf.put("i", file_with(alloc, b"\xEB\xFE")?)?;
-    let mut out = sink(alloc, 4096, Vec::new(alloc))?;
-    let mut note = sink(alloc, 4096, Vec::new(alloc))?;
-    let status = jakstab(&rt, alloc, &words, &mut shelf, &mut out, &mut note);
-    assert_eq!(rt; status, Status::ReadFault(Input::Stubs));
-    assert_eq!(rt; note.written(), b"jakstab: cannot read stubs\n".as_slice());
     Ok(())
 }

@@ -1,6 +1,4 @@
-use crate::tests::{file_with, sink, words_of};
-use crate::{Status, jakstab};
-use outside_io::MemoryShelf;
+use crate::calls::{check_end, file_with};
 use std::alloc::{AllocError, Global};
 use std::process::Abort;
 use std::test::Fail;
@@ -19,31 +17,23 @@ fn switch_forty(alloc: Global) -> Result<Vec<u8>, AllocError> {
 }
 
 // Does `recover` over code in one segment, of whose text this is to be the end.
-fn check_end<R: Abort + Threads + Sync>(
+fn check_code<R: Abort + Threads + Sync>(
     rt: &R,
     alloc: Global,
     words: &[&str],
     code: &[u8],
     end: &str,
 ) -> Result<(), Fail> {
-    let words = words_of(alloc, words)?;
-    let mut shelf = MemoryShelf::new(alloc, Vec::new(alloc));
-    shelf.put("a", file_with(alloc, code)?)?;
-    let mut out = sink(alloc, 4096, Vec::new(alloc))?;
-    let mut note = sink(alloc, 4096, Vec::new(alloc))?;
-    let status = jakstab(rt, alloc, &words, &mut shelf, &mut out, &mut note);
-    assert_eq!(rt; status, Status::Done, "{end}");
-    assert!(rt; out.written().ends_with(end.as_bytes()), "{end}");
-    Ok(())
+    check_end(rt, alloc, words, &file_with(alloc, code)?, "", end)
 }
 
-const FIRST: &[&str] = &["recover", "--text", "1", "a"];
+const FIRST: &[&str] = &["recover", "--text", "1", "i"];
 
-const FIRST_OF_FOUR: &[&str] = &["recover", "--text=1", "--k", "4", "a"];
+const FIRST_OF_FOUR: &[&str] = &["recover", "--text=1", "--k", "4", "i"];
 
-const FIRST_OF_ELEVEN: &[&str] = &["recover", "--text=1", "--k=4", "--budget=11", "a"];
+const FIRST_OF_ELEVEN: &[&str] = &["recover", "--text=1", "--k=4", "--budget=11", "i"];
 
-const FIRST_OF_ONE: &[&str] = &["recover", "--text=1", "--budget=1", "a"];
+const FIRST_OF_ONE: &[&str] = &["recover", "--text=1", "--budget=1", "i"];
 
 static WITHOUT_ROWS: [(&[&str], &[u8], &str); 8] = [
     (
@@ -118,63 +108,73 @@ edge 08048009 0804800B F3AA rep stosb
 end 4 4 0
 ";
 
+const PLAIN: &[&str] = &["recover", "i"];
+
+const FOUR: &[&str] = &["recover", "--k", "4", "i"];
+
+const SIXTY_FOUR: &[&str] = &["recover", "--k", "64", "i"];
+
+static ENDS: [(&[&str], &[u8], &str); 12] = [
+    (PLAIN, b"\xE8\x06\0\0\0\xE8\x01\0\0\0\xF4\xC3", TWO_CALLS),
+    (
+        PLAIN,
+        b"\x83\xF8\x02\x77\x07\xFF\x24\x85\x10\x80\x04\x08\xF4\xF4\xF4\xF4\x0D\x80\x04\x08\x0E\x80\x04\x08\x0F\x80\x04\x08",
+        SWITCH_THREE,
+    ),
+    (
+        PLAIN,
+        b"\xFF\xE0",
+        "loc 08048000\nopen 08048000 target 0\nend 1 0 1\n",
+    ),
+    (
+        PLAIN,
+        b"\x89\x08",
+        "loc 08048000\nopen 08048000 store 0\nend 1 0 1\n",
+    ),
+    (
+        PLAIN,
+        b"\xC6\x05\x07\x80\x04\x08\x90\xF4",
+        "loc 08048000\nend 1 0 0\n",
+    ),
+    (PLAIN, b"\xA3\0\0\0\0", "loc 08048000\nend 1 0 0\n"),
+    (
+        FOUR,
+        b"\xE8\xFB\xFF\xFF\xFF",
+        "open 08048000 store 4\nend 1 1 1\n",
+    ),
+    (
+        PLAIN,
+        b"\x81\xEC\0\0\x20\0\x50",
+        "edge 08048000 08048006 81EC00002000 sub esp, 00200000\nopen 08048006 stack 1\nend 2 1 1\n",
+    ),
+    (PLAIN, b"\xB9\x02\0\0\0\xE2\xFE\xF4", LOOP_SELF),
+    (
+        PLAIN,
+        b"\x8D\x7C\x24\xF0\xB9\x03\0\0\0\xF3\xAA\xF4",
+        REP_STOS,
+    ),
+    (PLAIN, b"\x31\xC9\xF7\xF1\xF4", "\nend 2 1 0\n"),
+    (
+        PLAIN,
+        b"\x31\xC0\xB9\x20\0\0\0\xD3\xE0\x74\x01\xCC\xF4",
+        "edge 08048009 0804800C 7401 je 0804800C\nend 5 4 0\n",
+    ),
+];
+
 #[test]
 fn texts_of_memory_and_of_faults_end_so(rt: HostRuntime) -> Result<(), Fail> {
     let alloc = rt.alloc();
-    let plain: &[&str] = &["recover", "a"];
-    let four: &[&str] = &["recover", "--k", "4", "a"];
-    let sixty_four: &[&str] = &["recover", "--k", "64", "a"];
     let forty = switch_forty(alloc)?;
-    let rows: [(&[&str], &[u8], &str); 14] = [
-        (plain, b"\xE8\x06\0\0\0\xE8\x01\0\0\0\xF4\xC3", TWO_CALLS),
-        (
-            plain,
-            b"\x83\xF8\x02\x77\x07\xFF\x24\x85\x10\x80\x04\x08\xF4\xF4\xF4\xF4\x0D\x80\x04\x08\x0E\x80\x04\x08\x0F\x80\x04\x08",
-            SWITCH_THREE,
-        ),
-        (plain, &forty, "open 08048005 target 3\nend 4 3 1\n"),
-        (sixty_four, &forty, "\nend 44 43 0\n"),
-        (
-            plain,
-            b"\xFF\xE0",
-            "loc 08048000\nopen 08048000 target 0\nend 1 0 1\n",
-        ),
-        (
-            plain,
-            b"\x89\x08",
-            "loc 08048000\nopen 08048000 store 0\nend 1 0 1\n",
-        ),
-        (
-            plain,
-            b"\xC6\x05\x07\x80\x04\x08\x90\xF4",
-            "loc 08048000\nend 1 0 0\n",
-        ),
-        (plain, b"\xA3\0\0\0\0", "loc 08048000\nend 1 0 0\n"),
-        (
-            four,
-            b"\xE8\xFB\xFF\xFF\xFF",
-            "open 08048000 store 4\nend 1 1 1\n",
-        ),
-        (
-            plain,
-            b"\x81\xEC\0\0\x20\0\x50",
-            "edge 08048000 08048006 81EC00002000 sub esp, 00200000\nopen 08048006 stack 1\nend 2 1 1\n",
-        ),
-        (plain, b"\xB9\x02\0\0\0\xE2\xFE\xF4", LOOP_SELF),
-        (
-            plain,
-            b"\x8D\x7C\x24\xF0\xB9\x03\0\0\0\xF3\xAA\xF4",
-            REP_STOS,
-        ),
-        (plain, b"\x31\xC9\xF7\xF1\xF4", "\nend 2 1 0\n"),
-        (
-            plain,
-            b"\x31\xC0\xB9\x20\0\0\0\xD3\xE0\x74\x01\xCC\xF4",
-            "edge 08048009 0804800C 7401 je 0804800C\nend 5 4 0\n",
-        ),
-    ];
-    for (words, code, end) in rows {
-        check_end(&rt, alloc, words, code, end)?;
+    check_code(
+        &rt,
+        alloc,
+        PLAIN,
+        &forty,
+        "open 08048005 target 3\nend 4 3 1\n",
+    )?;
+    check_code(&rt, alloc, SIXTY_FOUR, &forty, "\nend 44 43 0\n")?;
+    for (words, code, end) in &ENDS {
+        check_code(&rt, alloc, words, code, end)?;
     }
     Ok(())
 }
@@ -184,7 +184,7 @@ fn texts_of_memory_and_of_faults_end_so(rt: HostRuntime) -> Result<(), Fail> {
 fn texts_without_rows_end_so(rt: HostRuntime) -> Result<(), Fail> {
     let alloc = rt.alloc();
     let forty = switch_forty(alloc)?;
-    check_end(
+    check_code(
         &rt,
         alloc,
         FIRST,
@@ -192,7 +192,7 @@ fn texts_without_rows_end_so(rt: HostRuntime) -> Result<(), Fail> {
         "open 08048005 target\nend 4 3 1\n",
     )?;
     for (words, code, end) in &WITHOUT_ROWS {
-        check_end(&rt, alloc, words, code, end)?;
+        check_code(&rt, alloc, words, code, end)?;
     }
     Ok(())
 }

@@ -1,15 +1,76 @@
-use crate::tests::{OVERLAP, SELF_JUMP, check_text, file_with, sink, words_of};
-use crate::{Input, Status, jakstab};
-use outside_io::MemoryShelf;
-use std::alloc::{AllocError, Global};
-use std::process::Abort;
+use crate::calls::{Case, Content, File, check_case};
+use crate::tests::{OVERLAP, SELF_JUMP};
+use crate::{Input, Status};
 use std::test::Fail;
-use std::thread::Threads;
 
 // A jump into itself, whose second byte begins `inc eax`, and then `hlt`.
-const CODE: &[u8] = b"\xEB\xFF\xC0\xF4";
+pub const CODE: &[u8] = b"\xEB\xFF\xC0\xF4";
 
-const STEPS: &str = "\
+pub const START: &str = "\
+jakstab-start 1
+regs 00000000 00000000 00000000 00000000 BFFF0000 00000000 00000000 00000000
+flags 000000
+bases 10000000 20000000
+end
+";
+
+pub const UNALIGNED_START: &str = "\
+jakstab-start 1
+regs 00000000 00000000 00000000 00000000 BFFF0004 00000000 00000000 00000000
+flags 000000
+bases 10000000 20000000
+end
+";
+
+const LOW_START: &str = "\
+jakstab-start 1
+regs 00000000 00000000 00000000 00000000 00100000 00000000 00000000 00000000
+flags 000000
+bases 10000000 20000000
+end
+";
+
+const MEETING_START: &str = "\
+jakstab-start 1
+regs 00000000 00000000 00000000 00000000 BFFF0000 00000000 00000000 00000000
+flags 000000
+bases 10000000 10001000
+end
+";
+
+const START_IN_CODE: &str = "\
+jakstab-start 1
+regs 00000000 00000000 00000000 00000000 BFFF0000 00000000 00000000 00000000
+flags 000000
+bases 10000000 20000000
+fill 08048000 90
+end
+";
+
+const START_IN_CODE_LATER: &str = "\
+jakstab-start 1
+regs 00000000 00000000 00000000 00000000 BFFF0000 00000000 00000000 00000000
+flags 000000
+bases 10000000 20000000
+fill 10000000 90
+fill 08048000 90
+end
+";
+
+const START_WITHOUT_BYTES: &str = "\
+jakstab-start 1
+regs 00000000 00000000 00000000 00000000 BFFF0000 00000000 00000000 00000000
+flags 000000
+bases 10000000 20000000
+fill 10000000
+end
+";
+
+pub const RECORD: &str = "\
+jakstab-record 1
+regs 00000000 00000000 00000000 00000000 BFFF0000 00000000 00000000 00000000
+flags 000000
+bases 10000000 20000000
 step 08048000 08048001 00 00000000 00000000 00000000 00000000 0
 step 08048001 08048003 00 00000000 00000000 00000000 00000000 0
 end faulted
@@ -25,13 +86,60 @@ step 08048001 08048003 00 00000000 00000000 00000000 00000000 0
 end steps
 ";
 
-const NO_STEPS: &str = "end steps\n";
+const RECORD_OF_ONE: &str = "\
+jakstab-record 1
+regs 00000000 00000000 00000000 00000000 BFFF0000 00000000 00000000 00000000
+flags 000000
+bases 10000000 20000000
+step 08048000 08048001 00 00000000 00000000 00000000 00000000 0
+end steps
+";
+
+const RECORD_OF_NONE: &str = "\
+jakstab-record 1
+regs 00000000 00000000 00000000 00000000 BFFF0000 00000000 00000000 00000000
+flags 000000
+bases 10000000 20000000
+end steps
+";
 
 // The second step leads elsewhere.
-const OTHER_STEPS: &str = "\
+pub const OTHER_RECORD: &str = "\
+jakstab-record 1
+regs 00000000 00000000 00000000 00000000 BFFF0000 00000000 00000000 00000000
+flags 000000
+bases 10000000 20000000
 step 08048000 08048001 00 00000000 00000000 00000000 00000000 0
 step 08048001 08048002 00 00000000 00000000 00000000 00000000 0
 end faulted
+";
+
+pub const UNALIGNED_RECORD: &str = "\
+jakstab-record 1
+regs 00000000 00000000 00000000 00000000 BFFF0004 00000000 00000000 00000000
+flags 000000
+bases 10000000 20000000
+step 08048000 08048001 00 00000000 00000000 00000000 00000000 0
+step 08048001 08048003 00 00000000 00000000 00000000 00000000 0
+end faulted
+";
+
+const RECORD_IN_CODE: &str = "\
+jakstab-record 1
+regs 00000000 00000000 00000000 00000000 BFFF0000 00000000 00000000 00000000
+flags 000000
+bases 10000000 20000000
+fill 08048000 90
+step 08048000 08048001 00 00000000 00000000 00000000 00000000 0
+step 08048001 08048003 00 00000000 00000000 00000000 00000000 0
+end faulted
+";
+
+const RECORD_WITHOUT_END: &str = "\
+jakstab-record 1
+regs 00000000 00000000 00000000 00000000 BFFF0000 00000000 00000000 00000000
+flags 000000
+bases 10000000 20000000
 ";
 
 const OVERLAP_OF_VERSION_1: &str = "\
@@ -63,278 +171,202 @@ end 1 0 1
 
 const NO_DIGIT: &str = "jakstab-automaton 1\nentry 0804800\n";
 
-// The lines that start files and records have behind their first one.
-fn start_lines(alloc: Global, esp: &str, bases: &str) -> Result<String, AllocError> {
-    format!(in alloc;
-        "regs 00000000 00000000 00000000 00000000 {esp} 00000000 00000000 00000000\nflags 000000\nbases {bases}\n"
-    )
-}
+// The image, an empty stub file, the start file, the automaton and the record.
+const I: File = ("i", Content::Code(CODE));
 
-// What the files are made of: the start's ESP, its bases and what follows them; an automaton; and the steps of a record.
-#[derive(Clone, Copy)]
-struct Files<'a> {
-    esp: &'a str,
-    bases: &'a str,
-    rest: &'a str,
-    automaton: &'a str,
-    steps: &'a str,
-}
+const S: File = ("s", Content::Bytes(b""));
 
-// An image `i`, a start file `t`, an automaton `a`, a record `r` and an empty stub file `s`.
-fn shelf_of(alloc: Global, files: &Files, fail_at: Vec<u64>) -> Result<MemoryShelf, Fail> {
-    let lines = start_lines(alloc, files.esp, files.bases)?;
-    let rest = files.rest;
-    let steps = files.steps;
-    let start = format!(in alloc; "jakstab-start 1\n{lines}{rest}end\n")?;
-    let record = format!(in alloc; "jakstab-record 1\n{lines}{rest}{steps}")?;
-    let mut shelf = MemoryShelf::new(alloc, fail_at);
-    shelf.put("i", file_with(alloc, CODE)?)?;
-    shelf.put("t", Vec::from_slice(alloc, start.as_bytes())?)?;
-    shelf.put("a", Vec::from_slice(alloc, files.automaton.as_bytes())?)?;
-    shelf.put("r", Vec::from_slice(alloc, record.as_bytes())?)?;
-    shelf.put("s", Vec::new(alloc))?;
-    Ok(shelf)
-}
+const T: File = ("t", Content::Text(START));
 
-const FILES: Files<'static> = Files {
-    esp: "BFFF0000",
-    bases: "10000000 20000000",
-    rest: "",
-    automaton: OVERLAP,
-    steps: STEPS,
-};
+const A: File = ("a", Content::Text(OVERLAP));
 
-fn check<R: Abort + Threads + Sync>(
-    rt: &R,
-    alloc: Global,
-    words: &[&str],
-    files: &Files,
-    want: Status,
-    text: &str,
-) -> Result<(), Fail> {
-    let mut shelf = shelf_of(alloc, files, Vec::new(alloc))?;
-    let mut out = sink(alloc, 4096, Vec::new(alloc))?;
-    let mut note = sink(alloc, 4096, Vec::new(alloc))?;
-    let words = words_of(alloc, words)?;
-    let status = jakstab(rt, alloc, &words, &mut shelf, &mut out, &mut note);
-    assert_eq!(rt; status, want, "{text}");
-    assert_eq!(rt; out.written(), text.as_bytes(), "{text}");
-    assert_eq!(rt; note.written(), want.line().as_bytes(), "{text}");
-    Ok(())
-}
+const R: File = ("r", Content::Text(RECORD));
 
-const RECORD: &str = "\
-jakstab-record 1
-regs 00000000 00000000 00000000 00000000 BFFF0000 00000000 00000000 00000000
-flags 000000
-bases 10000000 20000000
-step 08048000 08048001 00 00000000 00000000 00000000 00000000 0
-step 08048001 08048003 00 00000000 00000000 00000000 00000000 0
-end faulted
-";
+const TEN: &[&str] = &["run", "i", "t", "10"];
 
-const RECORD_OF_ONE: &str = "\
-jakstab-record 1
-regs 00000000 00000000 00000000 00000000 BFFF0000 00000000 00000000 00000000
-flags 000000
-bases 10000000 20000000
-step 08048000 08048001 00 00000000 00000000 00000000 00000000 0
-end steps
-";
-
-const RECORD_OF_NONE: &str = "\
-jakstab-record 1
-regs 00000000 00000000 00000000 00000000 BFFF0000 00000000 00000000 00000000
-flags 000000
-bases 10000000 20000000
-end steps
-";
-
-const fn refused(line: u64, kind: u8) -> Status {
-    Status::InputRefused { line, kind }
-}
+static RUNS: [Case; 14] = [
+    (TEN, &[I, T], Status::Done, RECORD),
+    (
+        &["run", "i", "t", "2"],
+        &[I, T],
+        Status::Done,
+        RECORD_OF_TWO,
+    ),
+    (
+        &["run", "i", "--stubs", "s", "t", "1"],
+        &[I, S, T],
+        Status::Done,
+        RECORD_OF_ONE,
+    ),
+    (
+        &["run", "i", "t", "0"],
+        &[I, T],
+        Status::Done,
+        RECORD_OF_NONE,
+    ),
+    (
+        TEN,
+        &[I, ("t", Content::Text(UNALIGNED_START))],
+        Status::InputRefused { line: 2, kind: 11 },
+        "",
+    ),
+    (
+        TEN,
+        &[I, ("t", Content::Text(LOW_START))],
+        Status::InputRefused { line: 4, kind: 12 },
+        "",
+    ),
+    (
+        TEN,
+        &[I, ("t", Content::Text(MEETING_START))],
+        Status::InputRefused { line: 4, kind: 13 },
+        "",
+    ),
+    (
+        TEN,
+        &[I, ("t", Content::Text(START_IN_CODE))],
+        Status::InputRefused { line: 5, kind: 14 },
+        "",
+    ),
+    (
+        TEN,
+        &[I, ("t", Content::Text(START_IN_CODE_LATER))],
+        Status::InputRefused { line: 6, kind: 14 },
+        "",
+    ),
+    (
+        TEN,
+        &[I, ("t", Content::Text(START_WITHOUT_BYTES))],
+        Status::InputRefused { line: 5, kind: 3 },
+        "",
+    ),
+    (
+        &["run", "i", "r", "10"],
+        &[I, R],
+        Status::InputRefused { line: 1, kind: 1 },
+        "",
+    ),
+    (&["run", "i", "t", "1000001"], &[I, T], Status::Usage, ""),
+    (
+        &["run", "i", "x", "1"],
+        &[I, T],
+        Status::ReadFault(Input::First),
+        "",
+    ),
+    (
+        &["run", "x", "t", "1"],
+        &[I, T],
+        Status::ReadFault(Input::Image),
+        "",
+    ),
+];
 
 #[test]
 fn runs_are_recorded_or_do_not_begin(rt: HostRuntime) -> Result<(), Fail> {
     let alloc = rt.alloc();
-    let ten: &[&str] = &["run", "i", "t", "10"];
-    let unaligned = Files {
-        esp: "BFFF0004",
-        ..FILES
-    };
-    let low = Files {
-        esp: "00100000",
-        ..FILES
-    };
-    let meeting = Files {
-        bases: "10000000 10001000",
-        ..FILES
-    };
-    let in_code = Files {
-        rest: "fill 08048000 90\n",
-        ..FILES
-    };
-    let second = Files {
-        rest: "fill 10000000 90\nfill 08048000 90\n",
-        ..FILES
-    };
-    let bad = Files {
-        rest: "fill 10000000\n",
-        ..FILES
-    };
-    let rows: [(&[&str], &Files, Status, &str); 14] = [
-        (ten, &FILES, Status::Done, RECORD),
-        (&["run", "i", "t", "2"], &FILES, Status::Done, RECORD_OF_TWO),
-        (
-            &["run", "i", "--stubs", "s", "t", "1"],
-            &FILES,
-            Status::Done,
-            RECORD_OF_ONE,
-        ),
-        (
-            &["run", "i", "t", "0"],
-            &FILES,
-            Status::Done,
-            RECORD_OF_NONE,
-        ),
-        (ten, &unaligned, refused(2, 11), ""),
-        (ten, &low, refused(4, 12), ""),
-        (ten, &meeting, refused(4, 13), ""),
-        (ten, &in_code, refused(5, 14), ""),
-        (ten, &second, refused(6, 14), ""),
-        (ten, &bad, refused(5, 3), ""),
-        (&["run", "i", "r", "10"], &FILES, refused(1, 1), ""),
-        (&["run", "i", "t", "1000001"], &FILES, Status::Usage, ""),
-        (
-            &["run", "i", "x", "1"],
-            &FILES,
-            Status::ReadFault(Input::First),
-            "",
-        ),
-        (
-            &["run", "x", "t", "1"],
-            &FILES,
-            Status::ReadFault(Input::Image),
-            "",
-        ),
-    ];
-    for (words, files, want, text) in rows {
-        check(&rt, alloc, words, files, want, text)?;
+    for case in &RUNS {
+        check_case(&rt, alloc, case)?;
     }
     Ok(())
 }
+
+const REPLAY: &[&str] = &["replay", "i", "a", "r"];
+
+static REPLAYS: [Case; 14] = [
+    (REPLAY, &[I, A, R], Status::Done, "inside 2\n"),
+    (
+        &["replay", "--stubs=s", "i", "a", "r"],
+        &[I, S, ("a", Content::Text(OVERLAP_OF_VERSION_1)), R],
+        Status::Done,
+        "inside 2\n",
+    ),
+    (
+        REPLAY,
+        &[I, A, ("r", Content::Text(RECORD_OF_NONE))],
+        Status::Done,
+        "inside 0\n",
+    ),
+    (
+        REPLAY,
+        &[
+            I,
+            ("a", Content::Text(OPEN)),
+            ("r", Content::Text(RECORD_OF_NONE)),
+        ],
+        Status::Done,
+        "open 0 08048000\n",
+    ),
+    (
+        REPLAY,
+        &[I, A, ("r", Content::Text(OTHER_RECORD))],
+        Status::VerdictNo,
+        "notarun 1 to\n",
+    ),
+    (
+        REPLAY,
+        &[I, ("a", Content::Text(SELF_JUMP)), R],
+        Status::VerdictNo,
+        "notanedge 0 08048000 08048001\n",
+    ),
+    (
+        REPLAY,
+        &[I, ("a", Content::Text(WRONG_COUNT)), R],
+        Status::InputRefused { line: 5, kind: 5 },
+        "",
+    ),
+    (
+        REPLAY,
+        &[I, A, ("r", Content::Text(UNALIGNED_RECORD))],
+        Status::InputRefused { line: 2, kind: 11 },
+        "",
+    ),
+    (
+        REPLAY,
+        &[
+            I,
+            ("a", Content::Text(NO_DIGIT)),
+            ("r", Content::Text(UNALIGNED_RECORD)),
+        ],
+        Status::InputRefused { line: 2, kind: 3 },
+        "",
+    ),
+    (
+        REPLAY,
+        &[I, A, ("r", Content::Text(RECORD_IN_CODE))],
+        Status::InputRefused { line: 5, kind: 14 },
+        "",
+    ),
+    (
+        REPLAY,
+        &[I, A, ("r", Content::Text(RECORD_WITHOUT_END))],
+        Status::InputRefused { line: 5, kind: 7 },
+        "",
+    ),
+    (
+        &["replay", "i", "r", "a"],
+        &[I, A, R],
+        Status::InputRefused { line: 1, kind: 1 },
+        "",
+    ),
+    (
+        &["replay", "i", "a", "x"],
+        &[I, A, R],
+        Status::ReadFault(Input::Second),
+        "",
+    ),
+    (
+        &["replay", "i", "x", "r"],
+        &[I, A, R],
+        Status::ReadFault(Input::First),
+        "",
+    ),
+];
 
 #[test]
 fn records_are_replayed_to_their_verdicts(rt: HostRuntime) -> Result<(), Fail> {
     let alloc = rt.alloc();
-    let replay: &[&str] = &["replay", "i", "a", "r"];
-    let other = Files {
-        steps: OTHER_STEPS,
-        ..FILES
-    };
-    let elsewhere = Files {
-        automaton: SELF_JUMP,
-        ..FILES
-    };
-    let old = Files {
-        automaton: OVERLAP_OF_VERSION_1,
-        ..FILES
-    };
-    let miscounted = Files {
-        automaton: WRONG_COUNT,
-        ..FILES
-    };
-    let open = Files {
-        automaton: OPEN,
-        steps: NO_STEPS,
-        ..FILES
-    };
-    let none = Files {
-        steps: NO_STEPS,
-        ..FILES
-    };
-    let unaligned = Files {
-        esp: "BFFF0004",
-        ..FILES
-    };
-    let both = Files {
-        esp: "BFFF0004",
-        automaton: NO_DIGIT,
-        ..FILES
-    };
-    let in_code = Files {
-        rest: "fill 08048000 90\n",
-        ..FILES
-    };
-    let endless = Files { steps: "", ..FILES };
-    let rows: [(&[&str], &Files, Status, &str); 14] = [
-        (replay, &FILES, Status::Done, "inside 2\n"),
-        (
-            &["replay", "--stubs=s", "i", "a", "r"],
-            &old,
-            Status::Done,
-            "inside 2\n",
-        ),
-        (replay, &none, Status::Done, "inside 0\n"),
-        (replay, &open, Status::Done, "open 0 08048000\n"),
-        (replay, &other, Status::VerdictNo, "notarun 1 to\n"),
-        (
-            replay,
-            &elsewhere,
-            Status::VerdictNo,
-            "notanedge 0 08048000 08048001\n",
-        ),
-        (replay, &miscounted, refused(5, 5), ""),
-        (replay, &unaligned, refused(2, 11), ""),
-        (replay, &both, refused(2, 3), ""),
-        (replay, &in_code, refused(5, 14), ""),
-        (replay, &endless, refused(5, 7), ""),
-        (&["replay", "i", "r", "a"], &FILES, refused(1, 1), ""),
-        (
-            &["replay", "i", "a", "x"],
-            &FILES,
-            Status::ReadFault(Input::Second),
-            "",
-        ),
-        (
-            &["replay", "i", "x", "r"],
-            &FILES,
-            Status::ReadFault(Input::First),
-            "",
-        ),
-    ];
-    for (words, files, want, text) in rows {
-        check(&rt, alloc, words, files, want, text)?;
-    }
-    Ok(())
-}
-
-// The image, the stubs, the automaton and the record are read in this order, each checked before the next is read.
-#[test]
-fn inputs_are_read_in_the_order_of_the_words(rt: HostRuntime) -> Result<(), Fail> {
-    let alloc = rt.alloc();
-    let words = words_of(alloc, &["replay", "i", "a", "r", "--stubs", "s"])?;
-    let bad = Files {
-        automaton: NO_DIGIT,
-        ..FILES
-    };
-    let rows: [(&Files, u64, u64, Status); 8] = [
-        (&FILES, 1, 9, Status::ReadFault(Input::Image)),
-        (&FILES, 2, 9, Status::ReadFault(Input::Stubs)),
-        (&FILES, 3, 9, Status::ReadFault(Input::First)),
-        (&FILES, 4, 9, Status::ReadFault(Input::Second)),
-        (&FILES, 5, 9, Status::Done),
-        (&FILES, 5, 1, Status::WriteFault),
-        (&bad, 4, 9, refused(2, 3)),
-        (&bad, 3, 9, Status::ReadFault(Input::First)),
-    ];
-    for (files, fail_read, fail_write, want) in rows {
-        let mut shelf = shelf_of(alloc, files, vec![in alloc; fail_read]?)?;
-        let mut out = sink(alloc, 4096, vec![in alloc; fail_write]?)?;
-        let mut note = sink(alloc, 4096, Vec::new(alloc))?;
-        let status = jakstab(&rt, alloc, &words, &mut shelf, &mut out, &mut note);
-        assert_eq!(rt; status, want, "read {fail_read}, write {fail_write}");
-        assert_eq!(rt; note.written(), want.line().as_bytes());
+    for case in &REPLAYS {
+        check_case(&rt, alloc, case)?;
     }
     Ok(())
 }
@@ -349,28 +381,37 @@ open 08048002 budget 1
 end 2 1 1
 ";
 
+static BUDGETS: [Case; 8] = [
+    (
+        &["recover", "i", "--budget", "1"],
+        &[("i", Content::Code(b"\x74\x00\xF4"))],
+        Status::Done,
+        JE_NEXT_SPENT,
+    ),
+    (&["recover", "i", "--budget", "0"], &[I], Status::Usage, ""),
+    (&["recover"], &[I], Status::Usage, ""),
+    (
+        &["recover", "i", "--k", "1", "--k", "2"],
+        &[I],
+        Status::Usage,
+        "",
+    ),
+    (&["demo", "2001"], &[], Status::Usage, ""),
+    (&["run", "i", "t"], &[I, T], Status::Usage, ""),
+    (&["replay", "i", "a"], &[I, A, R], Status::Usage, ""),
+    (
+        &["replay", "i", "a", "r", "--k", "1"],
+        &[I, A, R],
+        Status::Usage,
+        "",
+    ),
+];
+
 #[test]
 fn budgets_are_told_and_other_words_are_refused(rt: HostRuntime) -> Result<(), Fail> {
     let alloc = rt.alloc();
-    let words: &[&str] = &["recover", "i", "--budget", "1"];
-    check_text(
-        &rt,
-        alloc,
-        words,
-        &file_with(alloc, b"\x74\x00\xF4")?,
-        JE_NEXT_SPENT,
-    )?;
-    let rows: [&[&str]; 7] = [
-        &["recover", "i", "--budget", "0"],
-        &["recover"],
-        &["recover", "i", "--k", "1", "--k", "2"],
-        &["demo", "2001"],
-        &["run", "i", "t"],
-        &["replay", "i", "a"],
-        &["replay", "i", "a", "r", "--k", "1"],
-    ];
-    for words in rows {
-        check(&rt, alloc, words, &FILES, Status::Usage, "")?;
+    for case in &BUDGETS {
+        check_case(&rt, alloc, case)?;
     }
     Ok(())
 }

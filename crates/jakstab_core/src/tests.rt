@@ -1,44 +1,17 @@
-ghost use Rattle.std.specs.Prelude.{◌<◌};
-
+use crate::calls::{Case, Content, call_over, check_case, check_ended, words_of};
+pub use crate::calls::{changed, file_with};
 use crate::{Input, Status, jakstab};
 use bit_words::NoMemory;
 use demo_images::form_e;
-use outside_io::{MemoryShelf, MemorySink, SureShelf, SureSink};
-use std::alloc::{AllocError, Global};
+use outside_io::{SureShelf, SureSink};
+use std::alloc::Global;
 use std::process::Abort;
 use std::test::Fail;
 use std::thread::Threads;
 
-// The file of code in one segment that may be read and executed.
-pub fn file_with(alloc: Global, code: &[u8]) -> Result<Vec<u8>, NoMemory> {
-    form_e(alloc, &code[..code.len().min(4096)], 5)
-}
-
-// The same where it may be written too.
+// The file of code in one segment that may be read, written and executed.
 pub fn writable_file(alloc: Global, code: &[u8]) -> Result<Vec<u8>, NoMemory> {
     form_e(alloc, &code[..code.len().min(4096)], 7)
-}
-
-pub fn words_of(alloc: Global, words: &[&str]) -> Result<Vec<String>, AllocError> {
-    let mut all = Vec::new(alloc);
-    for word in words {
-        all.push(String::from_str(alloc, word)?)?;
-    }
-    Ok(all)
-}
-
-pub fn sink(alloc: Global, per_write: usize, fail_at: Vec<u64>) -> Result<MemorySink, NoMemory>
-    requires { 0 < per_write }
-{
-    MemorySink::new(alloc, 4096, per_write, fail_at)
-}
-
-// A file in which other bytes stand from an offset on.
-pub fn changed(mut file: Vec<u8>, at: usize, bytes: &[u8]) -> Vec<u8> {
-    for (place, b) in file.iter_mut().skip(at).zip(bytes.iter()) {
-        *place = *b;
-    }
-    file
 }
 
 // The stub file `s`.
@@ -62,16 +35,8 @@ pub fn check_text<R: Abort + Threads + Sync>(
     file: &[u8],
     want: &str,
 ) -> Result<(), Fail> {
-    let mut shelf = MemoryShelf::new(alloc, Vec::new(alloc));
-    shelf.put("i", Vec::from_slice(alloc, file)?)?;
-    shelf.put("s", Vec::from_slice(alloc, STUBS.as_bytes())?)?;
-    let mut out = sink(alloc, 4096, Vec::new(alloc))?;
-    let mut note = sink(alloc, 4096, Vec::new(alloc))?;
-    let words = words_of(alloc, words)?;
-    let status = jakstab(rt, alloc, &words, &mut shelf, &mut out, &mut note);
-    assert_eq!(rt; status, Status::Done, "{want}");
-    assert_eq!(rt; out.written(), want.as_bytes(), "{want}");
-    assert!(rt; note.written().is_empty(), "{want}");
+    let ended = call_over(rt, alloc, words, file, STUBS)?;
+    check_ended(rt, &ended, Status::Done, want);
     Ok(())
 }
 
@@ -83,7 +48,7 @@ edge 08048000 08048000 EBFE jmp 08048000
 end 1 1 0
 ";
 
-pub const JE_NEXT: &str = "\
+const JE_NEXT: &str = "\
 jakstab-automaton 2
 entry 08048000
 loc 08048000
@@ -206,136 +171,94 @@ end 7 6 0
 
 const COUNTING: &[u8] = b"\xB8\0\0\0\0\x40\xEB\xFD";
 
+const PLAIN: &[&str] = &["recover", "i"];
+
+const TWELVE: &[&str] = &["recover", "--k", "4", "--budget", "12", "i"];
+
+const ELEVEN: &[&str] = &["recover", "i", "--k=4", "--budget=11"];
+
+const FLAT: &[&str] = &["recover", "--domain", "flat", "i"];
+
+// Words, code and the automaton.
+static RECOVERED: [(&[&str], &[u8], &str); 11] = [
+    (PLAIN, b"\xEB\xFE", SELF_JUMP),
+    (PLAIN, b"\xEB\xFF\xC0\xF4", OVERLAP),
+    (
+        PLAIN,
+        b"\xB8\x01\0\0\0\x83\xF8\x01\x74\x01\x0F\xF4",
+        KNOWN_COMPARE,
+    ),
+    (PLAIN, b"\x74\x00\xF4", JE_NEXT),
+    (PLAIN, b"\x74\x01\xE9\x90\x90\xF4\x00", JUMP_INTO_NEXT),
+    (PLAIN, b"\xE9\xFB\x7F\xFB\xE7", JUMP_TO_EXIT),
+    (PLAIN, b"\xE9\xFB\x7F\xFB\xF7", JUMP_TO_ZERO),
+    (
+        PLAIN,
+        b"\xB8\x02\0\0\0\x83\xC0\x03\x83\xE8\x04\x48\x75\xFE\x74\x00\xF4",
+        KNOWN_ARITHMETIC,
+    ),
+    (TWELVE, COUNTING, COUNTING_LOOP),
+    (ELEVEN, COUNTING, COUNTING_LOOP_SPENT),
+    (FLAT, COUNTING, COUNTING_LOOP),
+];
+
 #[test]
 fn images_are_recovered_to_their_texts(rt: HostRuntime) -> Result<(), Fail> {
     let alloc = rt.alloc();
-    let plain: &[&str] = &["recover", "a"];
-    let twelve: &[&str] = &["recover", "--k", "4", "--budget", "12", "a"];
-    let eleven: &[&str] = &["recover", "a", "--k=4", "--budget=11"];
-    let flat: &[&str] = &["recover", "--domain", "flat", "a"];
-    let rows: [(&[&str], &[u8], &str); 11] = [
-        (plain, b"\xEB\xFE", SELF_JUMP),
-        (plain, b"\xEB\xFF\xC0\xF4", OVERLAP),
-        (
-            plain,
-            b"\xB8\x01\0\0\0\x83\xF8\x01\x74\x01\x0F\xF4",
-            KNOWN_COMPARE,
-        ),
-        (plain, b"\x74\x00\xF4", JE_NEXT),
-        (plain, b"\x74\x01\xE9\x90\x90\xF4\x00", JUMP_INTO_NEXT),
-        (plain, b"\xE9\xFB\x7F\xFB\xE7", JUMP_TO_EXIT),
-        (plain, b"\xE9\xFB\x7F\xFB\xF7", JUMP_TO_ZERO),
-        (
-            plain,
-            b"\xB8\x02\0\0\0\x83\xC0\x03\x83\xE8\x04\x48\x75\xFE\x74\x00\xF4",
-            KNOWN_ARITHMETIC,
-        ),
-        (twelve, COUNTING, COUNTING_LOOP),
-        (eleven, COUNTING, COUNTING_LOOP_SPENT),
-        (flat, COUNTING, COUNTING_LOOP),
-    ];
-    for (words, code, want) in rows {
-        let words = words_of(alloc, words)?;
-        let mut shelf = MemoryShelf::new(alloc, Vec::new(alloc));
-        shelf.put("a", file_with(alloc, code)?)?;
-        let mut out = sink(alloc, 4096, Vec::new(alloc))?;
-        let mut note = sink(alloc, 4096, Vec::new(alloc))?;
-        let status = jakstab(&rt, alloc, &words, &mut shelf, &mut out, &mut note);
-        assert_eq!(rt; status, Status::Done, "{want}");
-        assert_eq!(rt; out.written(), want.as_bytes(), "{want}");
-        assert!(rt; note.written().is_empty(), "{want}");
+    for (words, code, want) in &RECOVERED {
+        check_text(&rt, alloc, words, &file_with(alloc, code)?, want)?;
     }
     Ok(())
 }
+
+// A jump to itself of which the first 51 bytes are there, and one whose segment has 3 bytes in the file.
+static REFUSED: [Case; 9] = [
+    (
+        PLAIN,
+        &[("i", Content::Bytes(b""))],
+        Status::ImageRefused(200),
+        "",
+    ),
+    (
+        PLAIN,
+        &[("i", Content::Front(51))],
+        Status::ImageRefused(1),
+        "",
+    ),
+    (
+        PLAIN,
+        &[("i", Content::Bytes(b"MZ"))],
+        Status::ImageRefused(101),
+        "",
+    ),
+    (
+        PLAIN,
+        &[("i", Content::Damaged(68, b"\x03"))],
+        Status::ImageRefused(9),
+        "",
+    ),
+    (PLAIN, &[], Status::ReadFault(Input::Image), ""),
+    (&["recover"], &[], Status::Usage, ""),
+    (
+        &["recover", "-i"],
+        &[("-i", Content::Bytes(b""))],
+        Status::Usage,
+        "",
+    ),
+    (&["demo", "2001"], &[], Status::Usage, ""),
+    (
+        &["recover", "i", "i"],
+        &[("i", Content::Bytes(b""))],
+        Status::Usage,
+        "",
+    ),
+];
 
 #[test]
 fn other_files_and_words_are_refused_and_write_nothing(rt: HostRuntime) -> Result<(), Fail> {
     let alloc = rt.alloc();
-    let whole = file_with(alloc, b"\xEB\xFE")?;
-    let long = changed(file_with(alloc, b"\xEB\xFE")?, 68, b"\x03");
-    let rows: [(&[&str], &[u8], Status, &str); 9] = [
-        (
-            &["recover", "a"],
-            b"",
-            Status::ImageRefused(200),
-            "jakstab: image refused 200\n",
-        ),
-        (
-            &["recover", "a"],
-            &whole[..51.min(whole.len())],
-            Status::ImageRefused(1),
-            "jakstab: image refused 1\n",
-        ),
-        (
-            &["recover", "a"],
-            b"MZ",
-            Status::ImageRefused(101),
-            "jakstab: image refused 101\n",
-        ),
-        (
-            &["recover", "a"],
-            &long,
-            Status::ImageRefused(9),
-            "jakstab: image refused 9\n",
-        ),
-        (
-            &["recover", "b"],
-            b"",
-            Status::ReadFault(Input::Image),
-            "jakstab: cannot read image\n",
-        ),
-        (&["recover"], b"", Status::Usage, "jakstab: usage\n"),
-        (&["recover", "-a"], b"", Status::Usage, "jakstab: usage\n"),
-        (&["demo", "2001"], b"", Status::Usage, "jakstab: usage\n"),
-        (
-            &["recover", "a", "a"],
-            b"",
-            Status::Usage,
-            "jakstab: usage\n",
-        ),
-    ];
-    for (words, content, want, line) in rows {
-        let mut shelf = MemoryShelf::new(alloc, Vec::new(alloc));
-        shelf.put("a", Vec::from_slice(alloc, content)?)?;
-        let mut out = sink(alloc, 4096, Vec::new(alloc))?;
-        let mut note = sink(alloc, 4096, Vec::new(alloc))?;
-        let words = words_of(alloc, words)?;
-        let status = jakstab(&rt, alloc, &words, &mut shelf, &mut out, &mut note);
-        assert_eq!(rt; status, want);
-        assert!(rt; out.written().is_empty(), "{line}");
-        assert_eq!(rt; note.written(), line.as_bytes());
-    }
-    Ok(())
-}
-
-// The text is 99 bytes: seven writes of at most 16.
-#[test]
-fn each_fault_of_the_outside_is_answered(rt: HostRuntime) -> Result<(), Fail> {
-    let alloc = rt.alloc();
-    let words = words_of(alloc, &["recover", "a"])?;
-    let rows: [(u64, u64, Status, usize); 9] = [
-        (1, 9, Status::ReadFault(Input::Image), 0),
-        (2, 1, Status::WriteFault, 0),
-        (2, 2, Status::WriteFault, 16),
-        (2, 3, Status::WriteFault, 32),
-        (2, 4, Status::WriteFault, 48),
-        (2, 5, Status::WriteFault, 64),
-        (2, 6, Status::WriteFault, 80),
-        (2, 7, Status::WriteFault, 96),
-        (2, 8, Status::Done, 99),
-    ];
-    for (fail_read, fail_write, want, held) in rows {
-        let mut shelf = MemoryShelf::new(alloc, vec![in alloc; fail_read]?);
-        shelf.put("a", file_with(alloc, b"\xEB\xFE")?)?;
-        let mut out = sink(alloc, 16, vec![in alloc; fail_write]?)?;
-        let mut note = sink(alloc, 4096, vec![in alloc; 2]?)?;
-        let status = jakstab(&rt, alloc, &words, &mut shelf, &mut out, &mut note);
-        assert_eq!(rt; status, want, "write {fail_write}");
-        assert_eq!(rt; out.written().len(), held, "write {fail_write}");
-        assert!(rt;
-            SELF_JUMP.as_bytes().starts_with(out.written()),
-            "write {fail_write}"
-        );
+    for case in &REFUSED {
+        check_case(&rt, alloc, case)?;
     }
     Ok(())
 }
