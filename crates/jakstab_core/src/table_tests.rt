@@ -1,13 +1,12 @@
 use crate::calls::{Case, Content, File, check_case};
-use crate::tables::table_of;
-use crate::{Input, Status};
-use bounded_values::Bounded;
+use crate::tables::{check_output, table_text};
+use crate::{Input, OpenGate, Status};
 use demo_images::demo;
-use flow_worklist::{Limits, explore};
+use flow_worklist::Limits;
 use image_loader::load;
 use std::test::Fail;
 use stub_file::read_stubs;
-use table_check::{TableAnswer, check_table, print_table, read_table};
+use table_check::{print_table, read_table};
 
 const SELF_JUMP: File = ("i", Content::Code(b"\xEB\xFE"));
 
@@ -190,7 +189,7 @@ fn tables_are_checked(rt: HostRuntime) -> Result<(), Fail> {
     Ok(())
 }
 
-// The demo of 200 blocks has 4,803 rows and 3,601 edges.
+// The demo of 200 blocks has 4,803 rows and 3,601 edges. Its table is read and printed again, and is closed.
 #[test]
 fn the_table_of_a_demo_is_closed(rt: HostRuntime) -> Result<(), Fail> {
     let alloc = rt.alloc();
@@ -202,13 +201,11 @@ fn the_table_of_a_demo_is_closed(rt: HostRuntime) -> Result<(), Fail> {
         k: 32,
         budget: 100_000,
     };
-    let log = explore::<HostRuntime, Bounded>(&rt, alloc, &image, &stubs, limits)?;
-    let table = table_of(alloc, &log, &image, &stubs, 32)?;
-    assert_eq!(rt; table.rows.len(), 4803);
-    let answer = check_table(&rt, alloc, &image, &stubs, &table)?;
-    assert_eq!(rt; answer, TableAnswer::Yes { edges: 3601 });
-    let text = print_table(alloc, &table)?;
+    let text = table_text(&rt, alloc, &image, &stubs, limits, &OpenGate)?;
     let again = read_table(alloc, &image, &text).ok().ok_or("not read")?;
     assert_eq!(rt; print_table(alloc, &again)?.as_slice(), text.as_slice());
+    let answer = check_output(&rt, alloc, &image, &stubs, &text);
+    let output = answer.ok().ok_or("not checked")?;
+    assert_eq!(rt; output.text.as_slice(), b"yes 4803 3601\n".as_slice());
     Ok(())
 }
