@@ -5,7 +5,7 @@ use std::test::Fail;
 use stub_file::Stubs;
 
 // Code, the flags of its segment, the text of a table, and the answer.
-const CASES: [(&[u8], u32, &[u8], TableAnswer); 34] = [
+static CASES: [(&[u8], u32, &[u8], TableAnswer); 34] = [
     // table-of-self-jump
     (
         b"\xEB\xFE",
@@ -250,12 +250,15 @@ const CASES: [(&[u8], u32, &[u8], TableAnswer); 34] = [
 fn tables_are_checked(rt: HostRuntime) -> Result<(), Fail> {
     let alloc = rt.alloc();
     let stubs = Stubs::none(alloc);
-    for (code, flags, text, want) in CASES {
-        let image = image_of(alloc, code, flags)?;
+    for (code, flags, text, want) in &CASES {
+        let image = image_of(alloc, &code[..code.len().min(4096)], *flags)?;
         match read_table(alloc, &image, text) {
             Ok(table) => {
+                if table.k < 1 || 1024 < table.k {
+                    return Err(Fail::from("no k"));
+                }
                 let answer = check_table(&rt, alloc, &image, &stubs, &table)?;
-                assert_eq!(rt; answer, want, "{text:?}");
+                assert_eq!(rt; answer, *want, "{text:?}");
             }
             Err(fault) => assert!(rt; false, "{text:?}: {fault:?}"),
         }
