@@ -37,3 +37,6 @@ pub use seen::{Holder, Seen};
 pub use state::State;
 pub use stored::Stored;
 pub use truth::Truth;
+
+#[cfg(test)]
+mod tests;

@@ -12,3 +12,6 @@ mod writes;
 
 pub use expand::expand_stub;
 pub use laws::calls_are_sound;
+
+#[cfg(test)]
+mod tests;

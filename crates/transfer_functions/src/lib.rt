@@ -19,6 +19,8 @@ mod shifts;
 mod site;
 mod sound;
 mod strings;
+#[cfg(test)]
+mod tests;
 mod values;
 
 pub use code::{KnownCode, known_code};

@@ -1,4 +1,4 @@
-use Rattle.import_stubs_tests.proofs.tests.value_named.Goals as goal
+use Rattle.import_stubs.proofs.tests.value_named.Goals as goal
 
 pub returns-then-eq : goal.returns-then-eq
 returns-then-eq g c = c.anything.ensures.holds c.args.s.now.parts.blocks

@@ -1,6 +1,6 @@
 mod plain;
 
-use abstract_state::{BuildFault, Note, State, StateData, Truth, Truths};
+use super::*;
 use bit_words::{NoMemory, Width};
 use domain_laws::FlatNumbers;
 use image_loader::Image;

@@ -9,7 +9,8 @@ ghost use Rattle.partitioned_memory.specs.Well.{MayHold};
 mod known_rows;
 mod rows;
 
-use crate::values::{above, anything, below, low_number, number};
+use crate::values::{above, anything, below, low_number, number, register_value, set_register};
+use crate::{KnownCode, expand_instr, known_code};
 use abstract_state::{Expansion, Note, Path, Seen, State, Stored, Truth, Truths};
 use address_regions::Region;
 use bit_words::{Op, Width};
@@ -22,7 +23,6 @@ use number_lines::Lined;
 use partitioned_memory::{Area, Parts};
 use std::alloc::Global;
 use std::test::Fail;
-use transfer_functions::{KnownCode, expand_instr, known_code};
 use x86_decoder::decode;
 
 // Where each instruction stands.
@@ -139,7 +139,7 @@ fn base_value<D: Domain>(s: &State<D>, text: &str) -> Result<D, Fail>
         return Ok(anything());
     }
     match register_number(text) {
-        Some(r) => Ok(s.register(r)),
+        Some(r) => Ok(register_value(s, r)),
         None => {
             let n = u32::from_str_radix(text, 16)?;
             Ok(number(n))
@@ -155,13 +155,13 @@ fn value_named<D: Domain>(s: &State<D>, text: &str) -> Result<D, Fail>
         Some((base, down)) => {
             let v = base_value(s, base)?;
             let n = number(u32::from_str_radix(down, 16)?);
-            Ok(below(v, n))
+            Ok(below(v, n, 16))
         }
         None => match text.split_once('+') {
             Some((base, up)) => {
                 let v = base_value(s, base)?;
                 let n = number(u32::from_str_radix(up, 16)?);
-                Ok(above(v, n))
+                Ok(above(v, n, 16))
             }
             None => base_value(s, text),
         },
@@ -171,7 +171,7 @@ fn value_named<D: Domain>(s: &State<D>, text: &str) -> Result<D, Fail>
 fn set_value<D: Domain>(s: &mut State<D>, name: &str, text: &str) -> Result<(), Fail> {
     let r = register_number(name).ok_or("a register")?;
     let v = value_named(s, text)?;
-    s.set_register(r, v);
+    set_register(s, r, v);
     Ok(())
 }
 
@@ -236,7 +236,7 @@ fn hand_to<D: Domain>(
     }
     s.add_block(region)?;
     let v = block_place(region, n);
-    s.set_register(r, v);
+    set_register(s, r, v);
     Ok(())
 }
 

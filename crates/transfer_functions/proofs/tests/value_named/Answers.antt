@@ -1,4 +1,4 @@
-use Rattle.transfer_functions_tests.proofs.tests.value_named.Goals as goal
+use Rattle.transfer_functions.proofs.tests.value_named.Goals as goal
 
 pub returns-in_ok-from_str_radix-in-Some : goal.returns-in_ok-from_str_radix-in-Some
 returns-in_ok-from_str_radix-in-Some g c =

@@ -5,6 +5,7 @@ ghost use Rattle.partitioned_memory.specs.Well.{MayHold};
 
 mod rows;
 
+use crate::expand_stub;
 use crate::values::{anything, block_place, number, stack_place};
 use abstract_state::{Expansion, Note, Path, Seen, State, Stored, Truth, Truths};
 use address_regions::Region;
@@ -13,7 +14,6 @@ use bounded_values::Bounded;
 use domain_laws::{Domain, FlatNumbers, Reach};
 use flow_log::Cause;
 use image_loader::Image;
-use import_stubs::expand_stub;
 use memory_map::{Bytes, Format, ImportName, Items, Name, Perm, Ranges, Segment, Segments, Span};
 use partitioned_memory::{Area, Parts};
 use std::alloc::Global;

@@ -1,5 +1,0 @@
-// The tests of abstract_state.
-#![tactic(auto)]
-
-#[cfg(test)]
-mod tests;
