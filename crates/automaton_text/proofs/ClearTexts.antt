@@ -29,7 +29,7 @@ use Rattle.x86_syntax.specs.Text.{address_text, base_text, digits_of, displaceme
 use Rattle.flow_log.specs.declared.cause.Cause.{Cause}
 use Rattle.flow_log.specs.declared.cause.Cause.TheVariants as causes
 use Rattle.automaton_text.specs.Text.{cause_text, code_text, text_at}
-use Rattle.automaton_text.proofs.Ascends.{and_true, both}
+use Rattle.std.proofs.lemmas.Bool.{and_parts, and_from}
 
 -- ---- plain fields
 
@@ -46,7 +46,7 @@ pub plain_is : (field : List ℕ) → is_plain field ≡ true → IsPlain field
 plain_is field e k d below = less 32 (get_or field k d) (AllPass-from_list_all (nat_lt 32) field e k d below)
 
 plain_both : (a b : List ℕ) → is_plain a ≡ true → is_plain b ≡ true → is_plain (a ++ b) ≡ true
-plain_both a b e f = list_all-append (nat_lt 32) a b ∙ and_true (is_plain a) (is_plain b) e f
+plain_both a b e f = list_all-append (nat_lt 32) a b ∙ and_from (is_plain a) (is_plain b) e f
 
 digit_above : (d : ℕ) → nat_lt 32 (hex_digit d) ≡ true
 unfolding hex_digit
@@ -55,7 +55,7 @@ digit_above d = grind (arith, nat_tests)
 plain_digits : (k n : ℕ) → is_plain (hex_digits k n) ≡ true
 unfolding hex_digits
 plain_digits zero n = refl
-plain_digits (suc k) n = plain_both (hex_digits k (n / 16)) (hex_digit (n % 16) ∷ []) (plain_digits k (n / 16)) (and_true (nat_lt 32 (hex_digit (n % 16))) true (digit_above (n % 16)) refl)
+plain_digits (suc k) n = plain_both (hex_digits k (n / 16)) (hex_digit (n % 16) ∷ []) (plain_digits k (n / 16)) (and_from (nat_lt 32 (hex_digit (n % 16))) true (digit_above (n % 16)) refl)
 
 pub plain_word : (n : ℕ) → is_plain (hex8 n) ≡ true
 unfolding hex8
@@ -74,7 +74,7 @@ plain_numeral : (ds : List ℕ) → AllDigits 10 ds → is_plain ds ≡ true
 plain_numeral [] all = refl
 plain_numeral (c ∷ cs) all =
     let range = digit_from_value c all.0 in
-    and_true (nat_lt 32 c) (is_plain cs) (above_space c (omega (arith, range))) (plain_numeral cs all.1)
+    and_from (nat_lt 32 c) (is_plain cs) (above_space c (omega (arith, range))) (plain_numeral cs all.1)
 
 pub plain_decimal : (n : ℕ) → n < 2 ^ 64 → is_plain (decimal n) ≡ true
 plain_decimal n small = plain_numeral (decimal n) (decimal_is_IsNumeral n small).0.1
@@ -85,11 +85,11 @@ name_byte_above b e = grind (arith, nat_tests)
 plain_name_bytes : (bs : List ℕ) → list_all is_name_byte bs ≡ true → is_plain bs ≡ true
 plain_name_bytes [] e = refl
 plain_name_bytes (b ∷ bs) e =
-    let parts : (is_name_byte b ≡ true) × (list_all is_name_byte bs ≡ true) = both (is_name_byte b) (list_all is_name_byte bs) e in
-    and_true (nat_lt 32 b) (is_plain bs) (name_byte_above b parts.0) (plain_name_bytes bs parts.1)
+    let parts : (is_name_byte b ≡ true) × (list_all is_name_byte bs ≡ true) = and_parts (is_name_byte b) (list_all is_name_byte bs) e in
+    and_from (nat_lt 32 b) (is_plain bs) (name_byte_above b parts.0) (plain_name_bytes bs parts.1)
 
 pub plain_name : (name : List ℕ) → is_name name ≡ true → is_plain name ≡ true
-plain_name name e = plain_name_bytes name (both (nat_le 1 (length name) && nat_le (length name) 4096) (list_all is_name_byte name) e).1
+plain_name name e = plain_name_bytes name (and_parts (nat_le 1 (length name) && nat_le (length name) 4096) (list_all is_name_byte name) e).1
 
 pub plain_cause : (c : Cause) → is_plain (cause_text c) ≡ true
 plain_cause causes.Bytes = refl
@@ -101,7 +101,7 @@ abbrev pub is_clear : List ℕ → Bool
 is_clear text = list_all (λ b. not (b == 10)) text
 
 pub clear_both : (a b : List ℕ) → is_clear a ≡ true → is_clear b ≡ true → is_clear (a ++ b) ≡ true
-clear_both a b e f = list_all-append (λ b. not (b == 10)) a b ∙ and_true (is_clear a) (is_clear b) e f
+clear_both a b e f = list_all-append (λ b. not (b == 10)) a b ∙ and_from (is_clear a) (is_clear b) e f
 
 plain_byte_clear : (b : ℕ) → nat_lt 32 b ≡ true → not (b == 10) ≡ true
 plain_byte_clear b e = grind (arith, nat_tests)
@@ -109,13 +109,13 @@ plain_byte_clear b e = grind (arith, nat_tests)
 pub plain_clear : (a : List ℕ) → is_plain a ≡ true → is_clear a ≡ true
 plain_clear [] e = refl
 plain_clear (b ∷ bs) e =
-    let parts : (nat_lt 32 b ≡ true) × (is_plain bs ≡ true) = both (nat_lt 32 b) (is_plain bs) e in
-    and_true (not (b == 10)) (is_clear bs) (plain_byte_clear b parts.0) (plain_clear bs parts.1)
+    let parts : (nat_lt 32 b ≡ true) × (is_plain bs ≡ true) = and_parts (nat_lt 32 b) (is_plain bs) e in
+    and_from (not (b == 10)) (is_clear bs) (plain_byte_clear b parts.0) (plain_clear bs parts.1)
 
 clear_at : (texts : List (List ℕ)) (n : ℕ) → list_all is_clear texts ≡ true → is_clear (slice_index_or texts n []) ≡ true
 clear_at [] n e = refl
-clear_at (x ∷ xs) zero e = (both (is_clear x) (list_all is_clear xs) e).0
-clear_at (x ∷ xs) (suc n) e = clear_at xs n (both (is_clear x) (list_all is_clear xs) e).1
+clear_at (x ∷ xs) zero e = (and_parts (is_clear x) (list_all is_clear xs) e).0
+clear_at (x ∷ xs) (suc n) e = clear_at xs n (and_parts (is_clear x) (list_all is_clear xs) e).1
 
 clear_digits : (k n : ℕ) → is_clear (hex_digits k n) ≡ true
 clear_digits k n = plain_clear (hex_digits k n) (plain_digits k n)

@@ -6,7 +6,7 @@ use Rattle.memory_map.specs.Image.{EXIT_PLACE}
 use Rattle.text_fields.specs.Hex.{hex8}
 use Rattle.text_fields.specs.Line.{newline}
 use Rattle.text_fields.specs.declared.line_fault.LineFault.{LineFault}
-use Rattle.text_fields.specs.Lines.{CONTENT, FIELD, ORDER, lines, read_from}
+use Rattle.text_fields.specs.Lines.{CONTENT, FIELD, ORDER, lines, read_from, demand, or_fault, last_of}
 use Rattle.text_fields.proofs.LineFacts.{line_refused}
 use Rattle.text_fields.proofs.Splitting.{Reaches, lines_first, reaches_both, spaced}
 use Rattle.automaton_text.specs.declared.automaton.Location.{Location}
@@ -14,12 +14,12 @@ use Rattle.automaton_text.specs.declared.automaton.Automaton.{Automaton}
 use Rattle.automaton_text.specs.declared.stage.Stage.TheVariants as stages
 use Rattle.automaton_text.specs.Laws.{DashesAreRefused, fits_location, fits_name, has_any_name, has_dash, is_word}
 use Rattle.automaton_text.specs.Orderly.{has_own_name, is_location_above}
-use Rattle.automaton_text.specs.Reading.{Reading, automaton_grammar, automaton_read, automaton_step, demand, has_own_suffix, is_above, is_named, last_of, location_or_later_step, location_step, nothing, or_fault, own_name, told}
+use Rattle.automaton_text.specs.Reading.{Reading, automaton_grammar, automaton_read, automaton_step, has_own_suffix, is_above, is_named, location_or_later_step, location_step, nothing, own_name, told}
 use Rattle.automaton_text.specs.Text.{edge_line, end_line, entry_line, header_line, import_suffix, loc_line, open_line, suffix_of, text_of}
-use Rattle.automaton_text.proofs.Ascends.{both}
 use Rattle.automaton_text.proofs.FieldsTold.{import_text, suffix_list}
 use Rattle.automaton_text.proofs.ReadBack.{clear_is, entry_reached, goes_behind, goes_from_none, goes_on, header_reached, location_line, location_reached, location_read}
 use Rattle.automaton_text.proofs.Told.{reading}
+use Rattle.std.proofs.lemmas.Bool.{and_parts}
 
 -- reading a text from this line on is refused for what some line says
 abbrev IsRefused : ℕ → Reading → List ℕ → Type 0
@@ -35,7 +35,7 @@ dash_refused : (v e : ℕ) (ls : List Location) (l : Location) (behind : List �
     → IsRefused n (reading stages.Locations v e ls [] [] []) (loc_line l ++ behind)
 unfolding automaton_step loc_line location_or_later_step location_step
 dash_refused v e ls l behind n fits named dash above =
-    let parts : (is_word l.at ≡ true) × (fits_name l.name ≡ true) = both (is_word l.at) (fits_name l.name) fits in
+    let parts : (is_word l.at ≡ true) × (fits_name l.name ≡ true) = and_parts (is_word l.at) (fits_name l.name) fits in
     let exit : (l.at == EXIT_PLACE) ≡ false = not_exit l.name (l.at == EXIT_PLACE) dash named in
     let text : suffix_of l ≡ spaced (suffix_list l.name) = ap (λ t. if t then codes " -" else import_suffix l.name) exit ∙ sym (import_text l.name) in
     let other : has_own_suffix l.at l.name ≡ false = ap (λ t. if t then is_named (codes "-") l.name else not (is_named (codes "-") l.name)) exit ∙ ap not dash in
@@ -66,9 +66,9 @@ some_refused : (v e : ℕ) (ls todo : List Location) (behind : List ℕ) (n : �
     → goes_on is_location_above (last_of ls) todo ≡ true → list_any has_dash todo ≡ true → IsRefused n (reading stages.Locations v e ls [] [] []) (flat_map loc_line todo ++ behind)
 some_refused v e ls [] behind n fits named order dash = cc
 some_refused v e ls (l ∷ todo) behind n fits named order dash =
-    let f : (fits_location l ≡ true) × (list_all fits_location todo ≡ true) = both (fits_location l) (list_all fits_location todo) fits in
-    let a : (has_any_name l ≡ true) × (list_all has_any_name todo ≡ true) = both (has_any_name l) (list_all has_any_name todo) named in
-    let o : (is_above ls l.at ≡ true) × (goes_on is_location_above (Some l) todo ≡ true) = both (is_above ls l.at) (goes_on is_location_above (Some l) todo) order in
+    let f : (fits_location l ≡ true) × (list_all fits_location todo ≡ true) = and_parts (fits_location l) (list_all fits_location todo) fits in
+    let a : (has_any_name l ≡ true) × (list_all has_any_name todo ≡ true) = and_parts (has_any_name l) (list_all has_any_name todo) named in
+    let o : (is_above ls l.at ≡ true) × (goes_on is_location_above (Some l) todo ≡ true) = and_parts (is_above ls l.at) (goes_on is_location_above (Some l) todo) order in
     by_dash (has_dash l) refl f.0 a.0 o.0 dash (λ m more. some_refused v e (ls ++ l ∷ []) todo behind m f.1 a.1 (goes_behind is_location_above ls l todo o.1) more)
   where
     by_dash : (t : Bool) → has_dash l ≡ t → fits_location l ≡ true → has_any_name l ≡ true → is_above ls l.at ≡ true → (t || list_any has_dash todo) ≡ true

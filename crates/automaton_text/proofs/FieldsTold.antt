@@ -1,58 +1,36 @@
 -- The fields of an automaton's lines are the texts of what they give.
 use Rattle.std.proofs.Common.{◌≡◌, ℕ, ◌+◌, ◌<◌, ◌^◌, ◌==◌, Bool, true, false, List, [], ◌∷◌, ◌++◌, length, cond, Option, None, Some, Ok, Err, refl, sym, ◌∙◌, ap, subst, arith, append-nil, nat_lt, decimal}
-use Rattle.std.specs.Prelude.{Result, codes, find, is_some, is_none, not, ◌&&◌, option_and_then, option_map, if◌then◌else◌}
+use Rattle.std.specs.Prelude.{Result, codes, find, is_some, is_none, not, ◌&&◌, option_map, if◌then◌else◌}
 use Rattle.std.specs.List.{join_with_byte}
 use Rattle.std.specs.Str.{bytes_eq}
 use Rattle.std.proofs.lemmas.Bool.Decides.{nat_tests}
 use Rattle.std.proofs.lemmas.Fmt.{decimal_digit}
-use Rattle.std.proofs.lemmas.Slice.Eq.{bytes_eq-Decides}
 use Rattle.memory_map.specs.Image.{EXIT_PLACE}
 use Rattle.memory_map.specs.Name.{is_name}
-use Rattle.text_fields.specs.Decimal.{decimal_number}
+use Rattle.text_fields.specs.Decimal.{decimal_number, decimal_is}
 use Rattle.text_fields.specs.Fields.{no_more, then_field, word_of}
 use Rattle.text_fields.specs.Hex.{hex8, hex_bytes, hex_text}
 use Rattle.text_fields.specs.Line.{newline, space}
 use Rattle.text_fields.proofs.DecimalFacts.{decimal_is_text}
-use Rattle.text_fields.proofs.FieldTexts.{bytes_back, has_field, is_done, word_is}
+use Rattle.text_fields.proofs.FieldTexts.{bytes_back, has_field, is_done, word_is, number_told}
 use Rattle.text_fields.proofs.Splitting.{joined, spaced}
 use Rattle.flow_log.specs.declared.cause.Cause.{Cause}
 use Rattle.automaton_text.specs.declared.automaton.Location.{Location}
 use Rattle.automaton_text.specs.declared.automaton.OpenMark.{OpenMark}
 use Rattle.automaton_text.specs.Orderly.{has_own_name}
-use Rattle.automaton_text.specs.Reading.{Reading, address_fields, all_causes, cause_of, code_fields, count_fields, count_of, demand, end_fields, has_own_suffix, import_fields, is_named, location_fields, mark_fields, name_of, or_fault, own_name, row_fields, row_of, suffix_fields, text_fields, version_of}
+use Rattle.automaton_text.specs.Reading.{Reading, all_causes, cause_of, code_fields, count_fields, end_fields, has_own_suffix, import_fields, is_named, location_fields, mark_fields, name_of, own_name, row_fields, row_of, suffix_fields, text_fields, version_of}
 use Rattle.automaton_text.specs.Text.{cause_text, end_line, entry_line, header_line, import_suffix, is_version, loc_line, row_suffix, suffix_of}
-use Rattle.automaton_text.proofs.Ascends.{both}
+use Rattle.std.proofs.lemmas.Bool.{and_parts}
+use Rattle.text_fields.proofs.Found.{mapped, chained, same_word}
 
--- ---- what is behind a test or something found
-
-pub if_ok : {A : Type 0} (t : Bool) (kind : ℕ) (x : Result A ℕ) (a : A) → (if t then x else Err kind) ≡ Ok a → (t ≡ true) × (x ≡ Ok a)
-if_ok true kind x a h = (refl, h)
-if_ok false kind x a h = cc
-
-pub found_ok : {A B : Type 0} (kind : ℕ) (o : Option A) (go : A → Result B ℕ) (b : B) → or_fault kind o go ≡ Ok b → (a : A) × (o ≡ Some a) × (go a ≡ Ok b)
-found_ok kind None go b h = cc
-found_ok kind (Some a) go b h = (a, refl, h)
-
-pub mapped : {A B : Type 0} (f : A → B) (o : Option A) (b : B) → option_map f o ≡ Some b → (a : A) × (o ≡ Some a) × (f a ≡ b)
-mapped f None b h = cc
-mapped f (Some a) b h = (a, refl, cc)
-
-pub chained : {A B : Type 0} (f : A → Option B) (o : Option A) (b : B) → option_and_then f o ≡ Some b → (a : A) × (o ≡ Some a) × (f a ≡ Some b)
-chained f None b h = cc
-chained f (Some a) b h = (a, refl, h)
+-- ---- tests
 
 if_some : {A : Type 0} (t : Bool) (a b : A) → ◌≡◌ {A = Option A} (if t then Some a else None) (Some b) → (t ≡ true) × (a ≡ b)
 if_some true a b h = (refl, cc)
 if_some false a b h = cc
 
-pub same_word : (word own : List ℕ) → bytes_eq word own ≡ true → word ≡ own
-same_word word own e = (bytes_eq-Decides word own).0 e
-
 less : (a b : ℕ) → nat_lt a b ≡ true → a < b
 less a b e = grind (arith, nat_tests)
-
-equal : (a b : ℕ) → (a == b) ≡ true → a ≡ b
-equal a b e = grind (arith, nat_tests)
 
 -- ---- the first line
 
@@ -73,13 +51,6 @@ pub version_told : (line : List ℕ) (v : ℕ) → version_of line ≡ Some v �
 version_told line v h = version_by line v (bytes_eq line (codes "jakstab-automaton 1")) (bytes_eq line (codes "jakstab-automaton 2")) refl refl h
 
 -- ---- the entry
-
-pub address_told : (fs : List (List ℕ)) (at : ℕ) → address_fields fs ≡ Some at → fs ≡ hex8 at ∷ []
-unfolding address_fields
-address_told fs at h =
-    let f = has_field word_of fs (λ a fs. no_more a fs) at h in
-    let d = is_done f.value at f.others f.after in
-    f.begins ∙ ap (λ gs. f.field ∷ gs) d.none ∙ ap (λ l. l ∷ []) (word_is f.field f.value f.gives ∙ ap hex8 d.same)
 
 pub entry_text : (at : ℕ) → (codes "entry" ++ spaced (hex8 at ∷ [])) ++ newline ≡ entry_line at
 entry_text at = ap (λ l. codes "entry " ++ (l ++ newline)) (append-nil (hex8 at))
@@ -214,26 +185,20 @@ mark_told version fs m h =
 
 -- ---- the end
 
-count_is : (field : List ℕ) (n : ℕ) → n < 2 ^ 64 → count_of n field ≡ Some true → field ≡ decimal n
-count_is field n small h =
-    let m : (k : ℕ) × (decimal_number field ≡ Some k) × ((k == n) ≡ true) = mapped (λ k. k == n) (decimal_number field) true h in
-    let same : m.0 ≡ n = equal m.0 n m.2 in
-    decimal_is_text field m.0 (omega arith) m.1 ∙ ap decimal same
-
 pub counts_told : (r : Reading) (fs : List (List ℕ)) → length r.locations < 2 ^ 64 → length r.edges < 2 ^ 64 → length r.marks < 2 ^ 64
     → count_fields r fs ≡ Some true → fs ≡ decimal (length r.locations) ∷ decimal (length r.edges) ∷ decimal (length r.marks) ∷ []
 unfolding count_fields
 counts_told r fs few fewer fewest h =
     let third : Bool → Bool → Bool → List (List ℕ) → Option Bool = λ a b c fs. no_more (a && b && c) fs in
-    let second : Bool → Bool → List (List ℕ) → Option Bool = λ a b fs. then_field (count_of (length r.marks)) fs (third a b) in
-    let first : Bool → List (List ℕ) → Option Bool = λ a fs. then_field (count_of (length r.edges)) fs (second a) in
-    let f = has_field (count_of (length r.locations)) fs first true h in
-    let k = has_field (count_of (length r.edges)) f.others (second f.value) true f.after in
-    let j = has_field (count_of (length r.marks)) k.others (third f.value k.value) true k.after in
+    let second : Bool → Bool → List (List ℕ) → Option Bool = λ a b fs. then_field (decimal_is (length r.marks)) fs (third a b) in
+    let first : Bool → List (List ℕ) → Option Bool = λ a fs. then_field (decimal_is (length r.edges)) fs (second a) in
+    let f = has_field (decimal_is (length r.locations)) fs first true h in
+    let k = has_field (decimal_is (length r.edges)) f.others (second f.value) true f.after in
+    let j = has_field (decimal_is (length r.marks)) k.others (third f.value k.value) true k.after in
     let d = is_done (f.value && k.value && j.value) true j.others j.after in
-    let outer : ((f.value && k.value) ≡ true) × (j.value ≡ true) = both (f.value && k.value) j.value d.same in
-    let inner : (f.value ≡ true) × (k.value ≡ true) = both f.value k.value outer.0 in
+    let outer : ((f.value && k.value) ≡ true) × (j.value ≡ true) = and_parts (f.value && k.value) j.value d.same in
+    let inner : (f.value ≡ true) × (k.value ≡ true) = and_parts f.value k.value outer.0 in
     f.begins ∙ ap (λ gs. f.field ∷ gs) k.begins ∙ ap (λ gs. f.field ∷ k.field ∷ gs) j.begins ∙ ap (λ gs. f.field ∷ k.field ∷ j.field ∷ gs) d.none
-    ∙ ap (λ l. l ∷ k.field ∷ j.field ∷ []) (count_is f.field (length r.locations) few (f.gives ∙ ap Some inner.0))
-    ∙ ap (λ l. decimal (length r.locations) ∷ l ∷ j.field ∷ []) (count_is k.field (length r.edges) fewer (k.gives ∙ ap Some inner.1))
-    ∙ ap (λ l. decimal (length r.locations) ∷ decimal (length r.edges) ∷ l ∷ []) (count_is j.field (length r.marks) fewest (j.gives ∙ ap Some outer.1))
+    ∙ ap (λ l. l ∷ k.field ∷ j.field ∷ []) (number_told f.field (length r.locations) few (f.gives ∙ ap Some inner.0))
+    ∙ ap (λ l. decimal (length r.locations) ∷ l ∷ j.field ∷ []) (number_told k.field (length r.edges) fewer (k.gives ∙ ap Some inner.1))
+    ∙ ap (λ l. decimal (length r.locations) ∷ decimal (length r.edges) ∷ l ∷ []) (number_told j.field (length r.marks) fewest (j.gives ∙ ap Some outer.1))

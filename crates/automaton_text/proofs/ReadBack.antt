@@ -6,21 +6,19 @@ use Rattle.std.specs.List.{list_all, list_any}
 use Rattle.std.specs.Str.{bytes_eq}
 use Rattle.std.proofs.lemmas.Bool.Decides.{nat_tests}
 use Rattle.std.proofs.lemmas.Fmt.{decimal_digit}
-use Rattle.std.proofs.lemmas.Slice.Eq.{bytes_eq-Decides}
 use Rattle.std.proofs.lemmas.List.Elements.{All-append}
 use Rattle.std.proofs.lemmas.List.Splits.{slice_split_at}
 use Rattle.std.proofs.lemmas.List.Sums.{AllPass-from_list_all}
 use Rattle.memory_map.specs.Image.{EXIT_PLACE}
 use Rattle.memory_map.specs.Name.{is_name}
-use Rattle.text_fields.specs.Decimal.{decimal_number}
+use Rattle.text_fields.specs.Decimal.{decimal_is}
 use Rattle.text_fields.specs.Fields.{no_more, then_field, word_of}
 use Rattle.text_fields.specs.Hex.{hex8, hex_bytes, hex_digit, hex_digits, hex2, hex_text}
 use Rattle.text_fields.specs.Line.{newline, space}
 use Rattle.text_fields.specs.declared.line_fault.LineFault.{LineFault}
-use Rattle.text_fields.specs.Lines.{CONTENT, COUNT, FIELD, HEADER, ORDER, WORD, fields, lines, read_from}
+use Rattle.text_fields.specs.Lines.{CONTENT, COUNT, FIELD, HEADER, ORDER, WORD, fields, lines, read_from, demand, or_fault, last_of}
 use Rattle.text_fields.proofs.DecimalFacts.{decimal_read}
-use Rattle.text_fields.proofs.FieldFacts.{then_reads}
-use Rattle.text_fields.proofs.FieldTexts.{bytes_read, word_read}
+use Rattle.text_fields.proofs.FieldTexts.{bytes_read, word_read, then_given, only_word_read, number_written}
 use Rattle.text_fields.proofs.Splitting.{ArePlain, IsPlain, Reaches, fields_spaced, reaches_both, reaches_end, reaches_line, reaches_none, spaced, spaced_line}
 use Rattle.text_fields.proofs.Splitting as plain
 use Rattle.x86_syntax.specs.Spelling.{spelled}
@@ -36,13 +34,15 @@ use Rattle.automaton_text.specs.declared.stage.Stage.{Stage}
 use Rattle.automaton_text.specs.declared.stage.Stage.TheVariants as stages
 use Rattle.automaton_text.specs.Laws.{OrderlyAutomataAreReadBack, fits_edge, fits_label, fits_location, fits_mark, fits_name, fits_row, is_word}
 use Rattle.automaton_text.specs.Orderly.{IsOrderly, ascend, edge_text, has_own_name, is_edge_above, is_edge_among, is_label_at, is_location_above, is_opening_above}
-use Rattle.automaton_text.specs.Reading.{NO_ENTRY, Reading, address_fields, all_causes, automaton_grammar, automaton_read, automaton_step, cause_of, code_fields, code_step, count_fields, count_of, demand, edge_step, end_fields, end_step, entry_step, has_own_suffix, header_step, import_fields, import_step, is_above, is_code, is_line_above, is_location, is_mark_above, is_marks, is_named, is_over, is_place_of, label_step, last_of, later_step, location_fields, location_or_later_step, location_step, mark_fields, mark_step, name_of, nothing, or_fault, own_name, row_fields, row_of, suffix_fields, text_fields, told, version_of}
+use Rattle.automaton_text.specs.Reading.{NO_ENTRY, Reading, all_causes, automaton_grammar, automaton_read, automaton_step, cause_of, code_fields, code_step, count_fields, edge_step, end_fields, end_step, entry_step, has_own_suffix, header_step, import_fields, import_step, is_above, is_code, is_line_above, is_location, is_mark_above, is_marks, is_named, is_over, is_place_of, label_step, later_step, location_fields, location_or_later_step, location_step, mark_fields, mark_step, name_of, nothing, own_name, row_fields, row_of, suffix_fields, text_fields, told, version_of}
 use Rattle.automaton_text.specs.Text.{HaveRowsBy, cause_text, code_text, edge_line, end_line, entry_line, header_line, import_suffix, is_version, label_text, loc_line, open_line, row_suffix, suffix_of, text_of}
-use Rattle.automaton_text.proofs.Ascends.{and_true, both, last_of_more}
 use Rattle.automaton_text.proofs.ClearTexts.{clear_both, clear_code, is_clear, is_plain, plain_bytes, plain_cause, plain_clear, plain_decimal, plain_is, plain_name, plain_word}
 use Rattle.automaton_text.proofs.FieldsTold.{import_text, row_list, suffix_list}
 use Rattle.automaton_text.proofs.Reading.{text_back}
 use Rattle.automaton_text.proofs.Told.{edge_whole, end_whole, mark_whole, reading}
+use Rattle.std.proofs.lemmas.Bool.{and_parts, and_from}
+use Rattle.text_fields.proofs.Found.{word_same}
+use Rattle.text_fields.proofs.LastOnes.{last_of_more}
 
 -- ---- lists that go on from an element
 
@@ -53,8 +53,8 @@ goes_on above o (x ∷ xs) = option_map_or (λ l. above l x) o true && goes_on a
 goes_from : {X : Type 0} (above : X → X → Bool) (x : X) (xs : List X) → ascend above (x ∷ xs) ≡ true → goes_on above (Some x) xs ≡ true
 goes_from above x [] e = refl
 goes_from above x (y ∷ ys) e =
-    let parts : (above x y ≡ true) × (ascend above (y ∷ ys) ≡ true) = both (above x y) (ascend above (y ∷ ys)) e in
-    and_true (above x y) (goes_on above (Some y) ys) parts.0 (goes_from above y ys parts.1)
+    let parts : (above x y ≡ true) × (ascend above (y ∷ ys) ≡ true) = and_parts (above x y) (ascend above (y ∷ ys)) e in
+    and_from (above x y) (goes_on above (Some y) ys) parts.0 (goes_from above y ys parts.1)
 
 pub goes_from_none : {X : Type 0} (above : X → X → Bool) (xs : List X) → ascend above xs ≡ true → goes_on above None xs ≡ true
 goes_from_none above [] e = refl
@@ -77,12 +77,6 @@ clear_is text e k d below = not_line (get_or text k d == 10) (AllPass-from_list_
     not_line : (t : Bool) → not t ≡ true → t ≡ false
     not_line true h = cc
     not_line false h = refl
-
-read_as : {A B : Type 0} (form : List ℕ → Option A) (f : List ℕ) (fs : List (List ℕ)) (a : A) (go : A → List (List ℕ) → Option B) → form f ≡ Some a → then_field form (f ∷ fs) go ≡ go a fs
-read_as form f fs a go e = then_reads form (f ∷ fs) fs a go (record { field = f; begins = refl; gives = e })
-
-same_bytes : (text : List ℕ) → bytes_eq text text ≡ true
-same_bytes text = (bytes_eq-Decides text text).1 refl
 
 -- the first field of a line, whatever is behind it
 fields_first : (first rest : List ℕ) → is_plain first ≡ true → fields (first ++ (32 ∷ rest)) ≡ first ∷ fields rest
@@ -129,10 +123,6 @@ header_reached v e =
     reaches_line automaton_grammar nothing (reading stages.Header v 0 [] [] [] []) line (clear_is line clear) refl
     (ap (λ o. or_fault HEADER o (λ w. Ok (reading stages.Header w 0 [] [] [] []))) read.0)
 
-address_read : (n : ℕ) → is_word n ≡ true → address_fields (hex8 n ∷ []) ≡ Some n
-unfolding address_fields
-address_read n small = read_as word_of (hex8 n) [] n (λ at fs. no_more at fs) (word_read n (word_small n small))
-
 pub entry_reached : (v e : ℕ) → is_word e ≡ true → Reaches automaton_grammar (reading stages.Header v 0 [] [] [] []) (entry_line e) (reading stages.Locations v e [] [] [] [])
 unfolding automaton_step
 entry_reached v e small =
@@ -141,7 +131,7 @@ entry_reached v e small =
     let clear : is_clear line ≡ true = clear_both (codes "entry ") (hex8 e) refl (plain_clear (hex8 e) (plain_word e)) in
     let parts : fields line ≡ codes "entry" ∷ hex8 e ∷ [] = ap fields own ∙ fields_spaced (codes "entry") (hex8 e ∷ []) (plain_is (codes "entry") refl) (plain.one (hex8 e) [] (plain_is (hex8 e) (plain_word e)) plain.none) in
     reaches_line automaton_grammar (reading stages.Header v 0 [] [] [] []) (reading stages.Locations v e [] [] [] []) line (clear_is line clear) refl
-    (ap (entry_step (reading stages.Header v 0 [] [] [] [])) parts ∙ ap (λ o. or_fault FIELD o (λ at. Ok (reading stages.Locations v at [] [] [] []))) (address_read e small))
+    (ap (entry_step (reading stages.Header v 0 [] [] [] [])) parts ∙ ap (λ o. or_fault FIELD o (λ at. Ok (reading stages.Locations v at [] [] [] []))) (only_word_read e (word_small e small)))
 
 -- ---- locations
 
@@ -156,7 +146,7 @@ suffix_read (Some name) fits = ap (option_and_then (λ n. no_more (Some n) [])) 
 pub location_read : (at : ℕ) (s : Option (List ℕ)) → is_word at ≡ true → fits_name s ≡ true → location_fields (hex8 at ∷ suffix_list s) ≡ Some (at, s)
 unfolding location_fields
 location_read at s small fits =
-    read_as word_of (hex8 at) (suffix_list s) at (λ a fs. option_map (λ suffix. (a, suffix)) (suffix_fields fs)) (word_read at (word_small at small))
+    then_given word_of (hex8 at) (suffix_list s) at (λ a fs. option_map (λ suffix. (a, suffix)) (suffix_fields fs)) (word_read at (word_small at small))
     ∙ ap (option_map (λ (suffix : Option (List ℕ)). (at, suffix))) (suffix_read s fits)
 
 none_is : (name : Option (List ℕ)) → is_none name ≡ true → None ≡ name
@@ -208,7 +198,7 @@ pub location_reached : (v e : ℕ) (ls : List Location) (l : Location) → fits_
     → Reaches automaton_grammar (reading stages.Locations v e ls [] [] []) (loc_line l) (reading stages.Locations v e (ls ++ l ∷ []) [] [] [])
 unfolding automaton_step loc_line location_or_later_step location_step
 location_reached v e ls l fits named above =
-    let parts : (is_word l.at ≡ true) × (fits_name l.name ≡ true) = both (is_word l.at) (fits_name l.name) fits in
+    let parts : (is_word l.at ≡ true) × (fits_name l.name ≡ true) = and_parts (is_word l.at) (fits_name l.name) fits in
     let own = own_suffix l parts.1 named in
     let line = location_line l (dashed l) own.text own.fits in
     let r : Reading = reading stages.Locations v e ls [] [] [] in
@@ -225,9 +215,9 @@ places_reached : (v e : ℕ) (ls todo : List Location) → list_all fits_locatio
 places_reached v e ls [] fits named on =
     subst (λ (xs : List Location). Reaches automaton_grammar (reading stages.Locations v e ls [] [] []) [] (reading stages.Locations v e xs [] [] [])) (sym (append-nil ls)) (reaches_none automaton_grammar (reading stages.Locations v e ls [] [] []))
 places_reached v e ls (l ∷ todo) fits named on =
-    let f : (fits_location l ≡ true) × (list_all fits_location todo ≡ true) = both (fits_location l) (list_all fits_location todo) fits in
-    let n : (has_own_name l ≡ true) × (list_all has_own_name todo ≡ true) = both (has_own_name l) (list_all has_own_name todo) named in
-    let o : (is_above ls l.at ≡ true) × (goes_on is_location_above (Some l) todo ≡ true) = both (is_above ls l.at) (goes_on is_location_above (Some l) todo) on in
+    let f : (fits_location l ≡ true) × (list_all fits_location todo ≡ true) = and_parts (fits_location l) (list_all fits_location todo) fits in
+    let n : (has_own_name l ≡ true) × (list_all has_own_name todo ≡ true) = and_parts (has_own_name l) (list_all has_own_name todo) named in
+    let o : (is_above ls l.at ≡ true) × (goes_on is_location_above (Some l) todo ≡ true) = and_parts (is_above ls l.at) (goes_on is_location_above (Some l) todo) on in
     subst (λ (xs : List Location). Reaches automaton_grammar (reading stages.Locations v e ls [] [] []) (loc_line l ++ flat_map loc_line todo) (reading stages.Locations v e xs [] [] [])) (one_more ls l todo)
     (reaches_both automaton_grammar _ _ _ (loc_line l) (flat_map loc_line todo) (location_reached v e ls l f.0 n.0 o.0) (places_reached v e (ls ++ l ∷ []) todo f.1 n.1 (goes_behind is_location_above ls l todo o.1)))
 
@@ -308,12 +298,12 @@ edge_clear x fits =
 ends_read : (from to : ℕ) (fs : List (List ℕ)) → is_word from ≡ true → is_word to ≡ true → end_fields (hex8 from ∷ hex8 to ∷ fs) ≡ Some (from, to, fs)
 unfolding end_fields
 ends_read from to fs small less =
-    read_as word_of (hex8 from) (hex8 to ∷ fs) from (λ f fs. then_field word_of fs (λ t fs. Some (f, t, fs))) (word_read from (word_small from small))
-    ∙ read_as word_of (hex8 to) fs to (λ t fs. Some (from, t, fs)) (word_read to (word_small to less))
+    then_given word_of (hex8 from) (hex8 to ∷ fs) from (λ f fs. then_field word_of fs (λ t fs. Some (f, t, fs))) (word_read from (word_small from small))
+    ∙ then_given word_of (hex8 to) fs to (λ t fs. Some (from, t, fs)) (word_read to (word_small to less))
 
 import_read : (name : List ℕ) → is_name name ≡ true → import_fields (name ∷ []) ≡ Some name
 unfolding import_fields
-import_read name e = read_as name_of name [] name (λ n fs. no_more n fs) (ap (λ t. if t then Some name else None) e)
+import_read name e = then_given name_of name [] name (λ n fs. no_more n fs) (ap (λ t. if t then Some name else None) e)
 
 digit_no_letter : (d : ℕ) → d < 16 → (hex_digit d == 105) ≡ false
 unfolding hex_digit
@@ -342,7 +332,7 @@ code_read bytes text e =
 code_true : (from : ℕ) (bytes : List ℕ) → nat_le (length bytes) 15 ≡ true → is_some (spelled bytes) ≡ true → is_code from bytes (code_text from bytes) ≡ true
 unfolding is_code
 code_true from bytes short names =
-    and_true (nat_le (length bytes) 15 && is_some (spelled bytes)) (bytes_eq (code_text from bytes) (code_text from bytes)) (and_true (nat_le (length bytes) 15) (is_some (spelled bytes)) short names) (same_bytes (code_text from bytes))
+    and_from (nat_le (length bytes) 15 && is_some (spelled bytes)) (bytes_eq (code_text from bytes) (code_text from bytes)) (and_from (nat_le (length bytes) 15) (is_some (spelled bytes)) short names) (word_same (code_text from bytes))
 
 module _ (stage : Stage) (v e : ℕ) (ls : List Location) (es : List Edge) (last : List ℕ) (ms : List OpenMark) where
   label_read : (from to : ℕ) (label : Label) (line : List ℕ) → fits_label label ≡ true → is_label_at ls from label ≡ true → is_location ls to ≡ true → is_line_above last line ≡ true
@@ -352,20 +342,20 @@ module _ (stage : Stage) (v e : ℕ) (ls : List Location) (es : List Edge) (last
       let u : Reading = reading stages.Edges v e ls (es ++ record { from = from; to = to; label = Import name } ∷ []) line ms in
       ap (λ o. or_fault FIELD o (λ n. import_step (reading stage v e ls es last ms) line from to n)) (import_read name fits)
       ∙ ap (λ t. demand t ORDER (demand (is_place_of ls from name && is_location ls to) CONTENT (Ok u))) above
-      ∙ ap (λ t. demand t CONTENT (Ok u)) (and_true (is_place_of ls from name) (is_location ls to) at there)
+      ∙ ap (λ t. demand t CONTENT (Ok u)) (and_from (is_place_of ls from name) (is_location ls to) at there)
   label_read from to (Code bytes) line fits at there above =
       let u : Reading = reading stages.Edges v e ls (es ++ record { from = from; to = to; label = Code bytes } ∷ []) line ms in
       let r : Reading = reading stage v e ls es last ms in
       let text : List ℕ = code_text from bytes.items in
-      let f : (nat_le (length bytes.items) 15 ≡ true) × (list_all (λ b. nat_lt b (2 ^ 8)) bytes.items ≡ true) = both (nat_le (length bytes.items) 15) (list_all (λ b. nat_lt b (2 ^ 8)) bytes.items) fits in
-      let a : (is_location ls from ≡ true) × (is_some (spelled bytes.items) ≡ true) = both (is_location ls from) (is_some (spelled bytes.items)) at in
+      let f : (nat_le (length bytes.items) 15 ≡ true) × (list_all (λ b. nat_lt b (2 ^ 8)) bytes.items ≡ true) = and_parts (nat_le (length bytes.items) 15) (list_all (λ b. nat_lt b (2 ^ 8)) bytes.items) fits in
+      let a : (is_location ls from ≡ true) × (is_some (spelled bytes.items) ≡ true) = and_parts (is_location ls from) (is_some (spelled bytes.items)) at in
       let ends : Bool = is_location ls from && is_location ls to in
       let import : Result Reading ℕ = or_fault FIELD (import_fields (fields text)) (λ n. import_step r line from to n) in
       let code : Result Reading ℕ = or_fault FIELD (code_fields (hex_text bytes.items) (fields text)) (λ c. code_step r line from to c.0 c.1) in
       ap (λ t. if t then import else code) (not_import bytes.items)
       ∙ ap (λ o. or_fault FIELD o (λ c. code_step r line from to c.0 c.1)) (code_read bytes.items text f.1)
       ∙ ap (λ t. demand t ORDER (demand (ends && is_code from bytes.items text) CONTENT (Ok u))) above
-      ∙ ap (λ t. demand t CONTENT (Ok u)) (and_true ends (is_code from bytes.items text) (and_true (is_location ls from) (is_location ls to) a.0 there) (code_true from bytes.items f.0 a.1))
+      ∙ ap (λ t. demand t CONTENT (Ok u)) (and_from ends (is_code from bytes.items text) (and_from (is_location ls from) (is_location ls to) a.0 there) (code_true from bytes.items f.0 a.1))
 
   edge_reached : (x : Edge) → is_open stage ≡ true → is_marks stage ≡ false → is_location ls e ≡ true → fits_edge x ≡ true → is_edge_among ls x ≡ true → is_line_above last (codes "edge " ++ edge_text x) ≡ true
       → Reaches automaton_grammar (reading stage v e ls es last ms) (edge_line x) (reading stages.Edges v e ls (es ++ x ∷ []) (codes "edge " ++ edge_text x) ms)
@@ -374,9 +364,9 @@ module _ (stage : Stage) (v e : ℕ) (ls : List Location) (es : List Edge) (last
       let r : Reading = reading stage v e ls es last ms in
       let line : List ℕ = codes "edge " ++ edge_text x in
       let u : Reading = reading stages.Edges v e ls (es ++ x ∷ []) line ms in
-      let outer : ((is_word x.from && is_word x.to) ≡ true) × (fits_label x.label ≡ true) = both (is_word x.from && is_word x.to) (fits_label x.label) fits in
-      let words : (is_word x.from ≡ true) × (is_word x.to ≡ true) = both (is_word x.from) (is_word x.to) outer.0 in
-      let joins : (is_label_at ls x.from x.label ≡ true) × (is_location ls x.to ≡ true) = both (is_label_at ls x.from x.label) (is_location ls x.to) among in
+      let outer : ((is_word x.from && is_word x.to) ≡ true) × (fits_label x.label ≡ true) = and_parts (is_word x.from && is_word x.to) (fits_label x.label) fits in
+      let words : (is_word x.from ≡ true) × (is_word x.to ≡ true) = and_parts (is_word x.from) (is_word x.to) outer.0 in
+      let joins : (is_label_at ls x.from x.label ≡ true) × (is_location ls x.to ≡ true) = and_parts (is_label_at ls x.from x.label) (is_location ls x.to) among in
       let fs : List (List ℕ) = hex8 x.from ∷ hex8 x.to ∷ label_fields x.from x.label in
       let taken : automaton_step r line ≡ Ok u =
       as_later stage v e ls es last ms line (codes "edge") fs on entry refl (edge_parts x outer.1)
@@ -411,10 +401,10 @@ edges_reached stage v e ls done [] on no_marks entry fits among order = record {
       subst (λ (xs : List Edge). Reaches automaton_grammar s [] (reading stage v e ls xs (last_line (last_of done)) [])) (sym (append-nil done)) (reaches_none automaton_grammar s);
 }
 edges_reached stage v e ls done (x ∷ todo) on no_marks entry fits among order =
-    let f : (fits_edge x ≡ true) × (list_all fits_edge todo ≡ true) = both (fits_edge x) (list_all fits_edge todo) fits in
-    let a : (is_edge_among ls x ≡ true) × (list_all (is_edge_among ls) todo ≡ true) = both (is_edge_among ls x) (list_all (is_edge_among ls) todo) among in
+    let f : (fits_edge x ≡ true) × (list_all fits_edge todo ≡ true) = and_parts (fits_edge x) (list_all fits_edge todo) fits in
+    let a : (is_edge_among ls x ≡ true) × (list_all (is_edge_among ls) todo ≡ true) = and_parts (is_edge_among ls x) (list_all (is_edge_among ls) todo) among in
     let first : Bool = option_map_or (λ l. is_edge_above l x) (last_of done) true in
-    let o : (first ≡ true) × (goes_on is_edge_above (Some x) todo ≡ true) = both first (goes_on is_edge_above (Some x) todo) order in
+    let o : (first ≡ true) × (goes_on is_edge_above (Some x) todo ≡ true) = and_parts first (goes_on is_edge_above (Some x) todo) order in
     let s : Reading = reading stage v e ls done (last_line (last_of done)) [] in
     let one : Reaches automaton_grammar s (edge_line x) (reading stages.Edges v e ls (done ++ x ∷ []) (codes "edge " ++ edge_text x) []) =
     edge_reached stage v e ls done (last_line (last_of done)) [] x on no_marks entry f.0 a.0 (above_line (last_of done) x o.0)
@@ -446,16 +436,16 @@ row_read row small =
 rows_by : (two : Bool) (row : Option ℕ) → is_some row ≡ two → fits_row row ≡ true → (if two then then_field row_of (row_list row) (λ n fs. no_more (Some n) fs) else no_more None (row_list row)) ≡ Some row
 rows_by true None e fits = cc
 rows_by false None e fits = refl
-rows_by true (Some row) e fits = read_as row_of (decimal row) [] row (λ n fs. no_more (Some n) fs) (row_read row fits)
+rows_by true (Some row) e fits = then_given row_of (decimal row) [] row (λ n fs. no_more (Some n) fs) (row_read row fits)
 rows_by false (Some row) e fits = cc
 
 mark_read : (v : ℕ) (m : OpenMark) → fits_mark m ≡ true → is_some m.row ≡ (v == 2) → mark_fields v (hex8 m.at ∷ cause_text m.cause ∷ row_list m.row) ≡ Some m
 unfolding mark_fields
 mark_read v m fits row =
-    let f : (is_word m.at ≡ true) × (fits_row m.row ≡ true) = both (is_word m.at) (fits_row m.row) fits in
+    let f : (is_word m.at ≡ true) × (fits_row m.row ≡ true) = and_parts (is_word m.at) (fits_row m.row) fits in
     let made : ℕ → Cause → Option ℕ → OpenMark = λ at cause row. record { at = at; cause = cause; row = row } in
-    read_as word_of (hex8 m.at) (cause_text m.cause ∷ row_list m.row) m.at (λ at fs. then_field cause_of fs (λ cause fs. option_map (λ row. made at cause row) (row_fields v fs))) (word_read m.at (word_small m.at f.0))
-    ∙ read_as cause_of (cause_text m.cause) (row_list m.row) m.cause (λ cause fs. option_map (λ row. made m.at cause row) (row_fields v fs)) (cause_read m.cause)
+    then_given word_of (hex8 m.at) (cause_text m.cause ∷ row_list m.row) m.at (λ at fs. then_field cause_of fs (λ cause fs. option_map (λ row. made at cause row) (row_fields v fs))) (word_read m.at (word_small m.at f.0))
+    ∙ then_given cause_of (cause_text m.cause) (row_list m.row) m.cause (λ cause fs. option_map (λ row. made m.at cause row) (row_fields v fs)) (cause_read m.cause)
     ∙ ap (option_map (λ (row : Option ℕ). made m.at m.cause row)) (rows_by (v == 2) m.row row f.1)
 
 plain_rows : (row : Option ℕ) → fits_row row ≡ true → ArePlain (row_list row)
@@ -467,7 +457,7 @@ mark_reached : (stage : Stage) (v e : ℕ) (ls : List Location) (es : List Edge)
     → Reaches automaton_grammar (reading stage v e ls es last ms) (open_line m) (reading stages.Marks v e ls es last (ms ++ m ∷ []))
 unfolding later_step mark_step
 mark_reached stage v e ls es last ms m on entry fits row above there =
-    let f : (is_word m.at ≡ true) × (fits_row m.row ≡ true) = both (is_word m.at) (fits_row m.row) fits in
+    let f : (is_word m.at ≡ true) × (fits_row m.row ≡ true) = and_parts (is_word m.at) (fits_row m.row) fits in
     let r : Reading = reading stage v e ls es last ms in
     let u : Reading = reading stages.Marks v e ls es last (ms ++ m ∷ []) in
     let fs : List (List ℕ) = hex8 m.at ∷ cause_text m.cause ∷ row_list m.row in
@@ -497,9 +487,9 @@ marks_reached stage v e ls es last done [] on entry fits rows order opened = rec
       subst (λ (xs : List OpenMark). Reaches automaton_grammar s [] (reading stage v e ls es last xs)) (sym (append-nil done)) (reaches_none automaton_grammar s);
 }
 marks_reached stage v e ls es last done (m ∷ todo) on entry fits rows order opened =
-    let f : (fits_mark m ≡ true) × (list_all fits_mark todo ≡ true) = both (fits_mark m) (list_all fits_mark todo) fits in
-    let o : (is_mark_above done m ≡ true) × (goes_on is_opening_above (Some m) todo ≡ true) = both (is_mark_above done m) (goes_on is_opening_above (Some m) todo) order in
-    let p : (is_location ls m.at ≡ true) × (list_all (λ n. is_location ls n.at) todo ≡ true) = both (is_location ls m.at) (list_all (λ (n : OpenMark). is_location ls n.at) todo) opened in
+    let f : (fits_mark m ≡ true) × (list_all fits_mark todo ≡ true) = and_parts (fits_mark m) (list_all fits_mark todo) fits in
+    let o : (is_mark_above done m ≡ true) × (goes_on is_opening_above (Some m) todo ≡ true) = and_parts (is_mark_above done m) (goes_on is_opening_above (Some m) todo) order in
+    let p : (is_location ls m.at ≡ true) × (list_all (λ n. is_location ls n.at) todo ≡ true) = and_parts (is_location ls m.at) (list_all (λ (n : OpenMark). is_location ls n.at) todo) opened in
     let s : Reading = reading stage v e ls es last done in
     let one : Reaches automaton_grammar s (open_line m) (reading stages.Marks v e ls es last (done ++ m ∷ [])) = mark_reached stage v e ls es last done m on entry f.0 (rows 0 m (omega arith)) o.0 p.0 in
     let rest : MarksRead stages.Marks v e ls es last (done ++ m ∷ []) todo =
@@ -515,12 +505,6 @@ marks_reached stage v e ls es last done (m ∷ todo) on entry fits rows order op
 
 -- ---- the end
 
-same_number : (n : ℕ) → (n == n) ≡ true
-same_number n = grind (arith, nat_tests)
-
-count_read : (n : ℕ) → n < 2 ^ 64 → count_of n (decimal n) ≡ Some true
-count_read n small = ap (option_map (λ m. m == n)) (decimal_read n small) ∙ ap Some (same_number n)
-
 counts_read : (r : Reading) → length r.locations < 2 ^ 64 → length r.edges < 2 ^ 64 → length r.marks < 2 ^ 64
     → count_fields r (decimal (length r.locations) ∷ decimal (length r.edges) ∷ decimal (length r.marks) ∷ []) ≡ Some true
 unfolding count_fields
@@ -528,9 +512,9 @@ counts_read r few fewer fewest =
     let l = length r.locations in
     let e = length r.edges in
     let o = length r.marks in
-    read_as (count_of l) (decimal l) (decimal e ∷ decimal o ∷ []) true (λ a fs. then_field (count_of e) fs (λ b fs. then_field (count_of o) fs (λ c fs. no_more (a && b && c) fs))) (count_read l few)
-    ∙ read_as (count_of e) (decimal e) (decimal o ∷ []) true (λ b fs. then_field (count_of o) fs (λ c fs. no_more (true && b && c) fs)) (count_read e fewer)
-    ∙ read_as (count_of o) (decimal o) [] true (λ c fs. no_more (true && true && c) fs) (count_read o fewest)
+    then_given (decimal_is l) (decimal l) (decimal e ∷ decimal o ∷ []) true (λ a fs. then_field (decimal_is e) fs (λ b fs. then_field (decimal_is o) fs (λ c fs. no_more (a && b && c) fs))) (number_written l few)
+    ∙ then_given (decimal_is e) (decimal e) (decimal o ∷ []) true (λ b fs. then_field (decimal_is o) fs (λ c fs. no_more (true && b && c) fs)) (number_written e fewer)
+    ∙ then_given (decimal_is o) (decimal o) [] true (λ c fs. no_more (true && true && c) fs) (number_written o fewest)
 
 end_reached : (stage : Stage) (v e : ℕ) (ls : List Location) (es : List Edge) (last : List ℕ) (ms : List OpenMark) → is_open stage ≡ true → is_location ls e ≡ true
     → length ls < 2 ^ 64 → length es < 2 ^ 64 → length ms < 2 ^ 64

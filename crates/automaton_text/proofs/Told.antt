@@ -12,7 +12,7 @@ use Rattle.std.proofs.lemmas.List.Elements.{All-nil, All-push}
 use Rattle.text_fields.specs.Hex.{hex8, hex_text}
 use Rattle.text_fields.specs.Line.{newline, space}
 use Rattle.text_fields.specs.declared.line_fault.LineFault.{LineFault}
-use Rattle.text_fields.specs.Lines.{CONTENT, COUNT, END, FIELD, HEADER, ORDER, WORD, after_line, end_fault, fields, lines, read_from, read_text}
+use Rattle.text_fields.specs.Lines.{CONTENT, COUNT, END, FIELD, HEADER, ORDER, WORD, after_line, end_fault, fields, lines, read_from, read_text, demand, or_fault, last_of}
 use Rattle.text_fields.proofs.Splitting.{fields_back, spaced}
 use Rattle.x86_syntax.specs.Spelling.{spelled}
 use Rattle.memory_map.specs.Image.{EXIT_PLACE}
@@ -26,10 +26,15 @@ use Rattle.automaton_text.specs.declared.stage.Stage.{Stage}
 use Rattle.automaton_text.specs.declared.stage.Stage.TheVariants as stages
 use Rattle.automaton_text.specs.Laws.{TextsTellOrderlyAutomata}
 use Rattle.automaton_text.specs.Orderly.{IsOrderly, ascend, edge_text, has_own_name, is_edge_above, is_edge_among, is_location_above, is_opening_above}
-use Rattle.automaton_text.specs.Reading.{NO_ENTRY, Reading, address_fields, automaton_grammar, automaton_read, automaton_step, code_fields, code_step, count_fields, demand, edge_step, end_fields, end_step, entry_step, has_own_suffix, header_step, import_fields, import_step, is_above, is_code, is_line_above, is_location, is_mark_above, is_marks, is_over, is_place_of, label_step, last_of, later_step, location_fields, location_or_later_step, location_step, mark_fields, mark_step, nothing, or_fault, step_after, told, version_of, with_edge}
+use Rattle.automaton_text.specs.Reading.{NO_ENTRY, Reading, automaton_grammar, automaton_read, automaton_step, code_fields, code_step, count_fields, edge_step, end_fields, end_step, entry_step, has_own_suffix, header_step, import_fields, import_step, is_above, is_code, is_line_above, is_location, is_mark_above, is_marks, is_over, is_place_of, label_step, later_step, location_fields, location_or_later_step, location_step, mark_fields, mark_step, nothing, step_after, told, version_of, with_edge}
 use Rattle.automaton_text.specs.Text.{HaveRowsBy, cause_text, code_text, edge_line, end_line, entry_line, header_line, is_version, label_text, loc_line, open_line, row_suffix, text_of}
-use Rattle.automaton_text.proofs.Ascends.{ascend_more, both, and_true, last_of_more, list_all_more}
-use Rattle.automaton_text.proofs.FieldsTold.{address_told, code_told, counts_told, ends_told, entry_text, found_ok, if_ok, import_told, location_named, location_text, location_told, mark_told, row_list, same_word, suffix_list, version_told}
+use Rattle.automaton_text.proofs.Ascends.{ascend_more, list_all_more}
+use Rattle.automaton_text.proofs.FieldsTold.{code_told, counts_told, ends_told, entry_text, import_told, location_named, location_text, location_told, mark_told, row_list, suffix_list, version_told}
+use Rattle.std.proofs.lemmas.Bool.{and_parts, and_from}
+use Rattle.text_fields.proofs.Found.{if_ok, found_ok, same_ok, same_word}
+use Rattle.text_fields.proofs.LastOnes.{last_of_more}
+use Rattle.text_fields.proofs.FieldTexts.{only_word_is}
+use Rattle.text_fields.specs.Fields.{only_word}
 
 -- ---- what was told so far
 
@@ -75,9 +80,6 @@ pub record Adds (r t : Reading) (line : List ℕ) : Type 0 where
   pub kept : Keeps t
   pub text : said t ≡ said r ++ (line ++ newline)
 
-same_ok : {A : Type 0} (a b : A) → ◌≡◌ {A = Result A ℕ} (Ok a) (Ok b) → a ≡ b
-same_ok a b h = cc
-
 flat_map-last : {X : Type 0} (f : X → List ℕ) (xs : List X) (x : X) → flat_map f (xs ++ x ∷ []) ≡ flat_map f xs ++ f x
 flat_map-last f xs x = flat_map-append f xs (x ∷ []) ∙ ap (λ l. flat_map f xs ++ l) (append-nil (f x))
 
@@ -107,10 +109,10 @@ entry_by v e ls es last ms t line [] kept parts h = cc
 entry_by v e ls es last ms t line (word ∷ fs) kept parts h =
     let r : Reading = reading stages.Header v e ls es last ms in
     let go : ℕ → Result Reading ℕ = λ at. Ok (reading stages.Locations v at ls es last ms) in
-    let w : (bytes_eq word (codes "entry") ≡ true) × (or_fault FIELD (address_fields fs) go ≡ Ok t) = if_ok (bytes_eq word (codes "entry")) WORD (or_fault FIELD (address_fields fs) go) t h in
-    let f : (at : ℕ) × (address_fields fs ≡ Some at) × (go at ≡ Ok t) = found_ok FIELD (address_fields fs) go t w.1 in
+    let w : (bytes_eq word (codes "entry") ≡ true) × (or_fault FIELD (only_word fs) go ≡ Ok t) = if_ok (bytes_eq word (codes "entry")) WORD (or_fault FIELD (only_word fs) go) t h in
+    let f : (at : ℕ) × (only_word fs ≡ Some at) × (go at ≡ Ok t) = found_ok FIELD (only_word fs) go t w.1 in
     let is : line ≡ codes "entry" ++ spaced (hex8 f.0 ∷ []) =
-    fields_back line word fs parts ∙ ap (λ l. l ++ spaced fs) (same_word word (codes "entry") w.0) ∙ ap (λ gs. codes "entry" ++ spaced gs) (address_told fs f.0 f.1)
+    fields_back line word fs parts ∙ ap (λ l. l ++ spaced fs) (same_word word (codes "entry") w.0) ∙ ap (λ gs. codes "entry" ++ spaced gs) (only_word_is fs f.0 f.1)
     in
     let whole : line ++ newline ≡ entry_line f.0 = ap (λ l. l ++ newline) is ∙ entry_text f.0 in
     let none = kept.begun in
@@ -220,8 +222,8 @@ code_line from to bytes text fs rest own = ap (λ l. codes "edge " ++ (hex8 from
 code_is : (from : ℕ) (bytes text : List ℕ) → is_code from bytes text ≡ true → (is_some (spelled bytes) ≡ true) × (text ≡ code_text from bytes)
 unfolding is_code
 code_is from bytes text h =
-    let outer : ((nat_le (length bytes) 15 && is_some (spelled bytes)) ≡ true) × (bytes_eq (code_text from bytes) text ≡ true) = both (nat_le (length bytes) 15 && is_some (spelled bytes)) (bytes_eq (code_text from bytes) text) h in
-    let inner : (nat_le (length bytes) 15 ≡ true) × (is_some (spelled bytes) ≡ true) = both (nat_le (length bytes) 15) (is_some (spelled bytes)) outer.0 in
+    let outer : ((nat_le (length bytes) 15 && is_some (spelled bytes)) ≡ true) × (bytes_eq (code_text from bytes) text ≡ true) = and_parts (nat_le (length bytes) 15 && is_some (spelled bytes)) (bytes_eq (code_text from bytes) text) h in
+    let inner : (nat_le (length bytes) 15 ≡ true) × (is_some (spelled bytes) ≡ true) = and_parts (nat_le (length bytes) 15) (is_some (spelled bytes)) outer.0 in
     (inner.1, sym (same_word (code_text from bytes) text outer.1))
 
 -- the lines of marks and of the end
@@ -265,10 +267,10 @@ module _ (stage : Stage) (v e : ℕ) (ls : List Location) (es : List Edge) (last
       let joins : Bool = is_location ls from && is_location ls to && is_code from bytes text in
       let order : (is_line_above last line ≡ true) × (demand joins CONTENT (Ok u) ≡ Ok t) = if_ok (is_line_above last line) ORDER (demand joins CONTENT (Ok u)) t h in
       let content : (joins ≡ true) × (Ok u ≡ Ok t) = if_ok joins CONTENT (Ok u) t order.1 in
-      let outer : ((is_location ls from && is_location ls to) ≡ true) × (is_code from bytes text ≡ true) = both (is_location ls from && is_location ls to) (is_code from bytes text) content.0 in
-      let ends : (is_location ls from ≡ true) × (is_location ls to ≡ true) = both (is_location ls from) (is_location ls to) outer.0 in
+      let outer : ((is_location ls from && is_location ls to) ≡ true) × (is_code from bytes text ≡ true) = and_parts (is_location ls from && is_location ls to) (is_code from bytes text) content.0 in
+      let ends : (is_location ls from ≡ true) × (is_location ls to ≡ true) = and_parts (is_location ls from) (is_location ls to) outer.0 in
       let own : (is_some (spelled bytes) ≡ true) × (text ≡ code_text from bytes) = code_is from bytes text outer.1 in
-      let among : is_edge_among ls x ≡ true = and_true (is_location ls from && is_some (spelled bytes)) (is_location ls to) (and_true (is_location ls from) (is_some (spelled bytes)) ends.0 own.0) ends.1 in
+      let among : is_edge_among ls x ≡ true = and_from (is_location ls from && is_some (spelled bytes)) (is_location ls to) (and_from (is_location ls from) (is_some (spelled bytes)) ends.0 own.0) ends.1 in
       subst (λ (w : Reading). Adds (reading stage v e ls es last ms) w line) (same_ok u t content.1)
       (edge_kept stage v e ls es last ms line x kept later on (is ∙ code_line from to bytes text fs rest own.1) order.0 among)
 

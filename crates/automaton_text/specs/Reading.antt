@@ -1,5 +1,5 @@
 -- How the text of an automaton is read: what each whole line makes of what was read before it, or the kind of its fault.
-use Rattle.std.specs.Prelude.{◌≡◌, ◌<◌, ◌-◌, ◌^◌, ◌==◌, ◌&&◌, ◌++◌, ℕ, Bool, true, false, not, List, [], ◌∷◌, length, codes, find, slice_get, nat_lt, nat_le, Option, None, Some, is_some, option_and_then, option_map, Result, Ok, Err, if◌then◌else◌}
+use Rattle.std.specs.Prelude.{◌≡◌, ◌<◌, ◌^◌, ◌==◌, ◌&&◌, ◌++◌, ℕ, Bool, true, false, not, List, [], ◌∷◌, length, codes, find, nat_lt, nat_le, Option, None, Some, is_some, option_and_then, option_map, Result, Ok, Err, if◌then◌else◌}
 use Rattle.std.specs.Option.{option_map_or}
 use Rattle.std.specs.Ordering.{nat_cmp, is_lt}
 use Rattle.std.specs.Cmp.Lexicographic.{slice_cmp}
@@ -7,10 +7,10 @@ use Rattle.std.specs.List.{AllPairs, join_with_byte}
 use Rattle.std.specs.Str.{bytes_eq}
 use Rattle.memory_map.specs.Image.{EXIT_PLACE}
 use Rattle.memory_map.specs.Name.{is_name}
-use Rattle.text_fields.specs.Decimal.{decimal_below, decimal_number}
-use Rattle.text_fields.specs.Fields.{no_more, then_field, word_of}
+use Rattle.text_fields.specs.Decimal.{decimal_below, decimal_is}
+use Rattle.text_fields.specs.Fields.{no_more, only_word, then_field, word_of}
 use Rattle.text_fields.specs.Hex.{hex_bytes}
-use Rattle.text_fields.specs.Lines.{CONTENT, COUNT, FIELD, Grammar, HEADER, ORDER, WORD, END, fields, read_text}
+use Rattle.text_fields.specs.Lines.{CONTENT, COUNT, FIELD, Grammar, HEADER, ORDER, WORD, END, demand, fields, follows_last, or_fault, read_text}
 use Rattle.text_fields.specs.declared.line_fault.LineFault.{LineFault}
 use Rattle.x86_syntax.specs.Spelling.{spelled}
 use Rattle.flow_log.specs.declared.cause.Cause.{Cause}
@@ -47,12 +47,9 @@ nothing = record { stage = stages.Start; version = 0; entry = 0; locations = [];
 abbrev pub AreAscending : List Location → Type 0
 AreAscending locations = AllPairs (λ a b. a.at < b.at) locations
 
-abbrev pub last_of : {X : Type 0} → List X → Option X
-last_of xs = slice_get xs (length xs - 1)
-
 -- whether an address stands above the last location
 abbrev pub is_above : List Location → ℕ → Bool
-is_above locations at = option_map_or (λ l. nat_lt l.at at) (last_of locations) true
+is_above locations at = follows_last (λ l at. nat_lt l.at at) locations at
 
 unfoldable pub location_at : List Location → ℕ → Option Location
 location_at locations at = find (λ l. l.at == at) locations
@@ -67,21 +64,10 @@ is_named name held = option_map_or (λ n. bytes_eq n name) held false
 abbrev pub is_place_of : List Location → ℕ → List ℕ → Bool
 is_place_of locations at name = option_map_or (λ l. is_named name l.name) (location_at locations at) false
 
--- ---- faults
-
 -- the kind of the fault that the entry is no location. The first line after the locations shows it, and it is a fault of what
 -- the entry's line says.
 abbrev pub NO_ENTRY : ℕ
 NO_ENTRY = 8
-
--- what holds, or a fault of this kind
-abbrev pub demand : {A : Type 0} → Bool → ℕ → Result A ℕ → Result A ℕ
-demand holds kind go = if holds then go else Err kind
-
--- what comes of what was found, or a fault of this kind where nothing was
-abbrev pub or_fault : {A B : Type 0} → ℕ → Option A → (A → Result B ℕ) → Result B ℕ
-or_fault kind None go = Err kind
-or_fault kind (Some found) go = go found
 
 -- ---- the first line and the entry
 
@@ -92,13 +78,10 @@ version_of line =
 abbrev pub header_step : Reading → List ℕ → Result Reading ℕ
 header_step r line = or_fault HEADER (version_of line) (λ version. Ok (record r { stage = stages.Header; version = version }))
 
-unfoldable pub address_fields : List (List ℕ) → Option ℕ
-address_fields fs = then_field word_of fs (λ at fs. no_more at fs)
-
 abbrev pub entry_step : Reading → List (List ℕ) → Result Reading ℕ
 entry_step r [] = Err WORD
 entry_step r (word ∷ fs) =
-    if bytes_eq word (codes "entry") then or_fault FIELD (address_fields fs) (λ entry. Ok (record r { stage = stages.Locations; entry = entry }))
+    if bytes_eq word (codes "entry") then or_fault FIELD (only_word fs) (λ entry. Ok (record r { stage = stages.Locations; entry = entry }))
     else Err WORD
 
 -- ---- `loc` lines
@@ -197,7 +180,7 @@ mark_fields version fs =
 
 -- whether a mark stands above the last one; a location and a cause stand once
 abbrev pub is_mark_above : List OpenMark → OpenMark → Bool
-is_mark_above marks m = option_map_or (λ last. is_lt (opening_cmp last m)) (last_of marks) true
+is_mark_above marks m = follows_last (λ last m. is_lt (opening_cmp last m)) marks m
 
 unfoldable pub mark_step : Reading → OpenMark → Result Reading ℕ
 mark_step r m =
@@ -206,15 +189,11 @@ mark_step r m =
 
 -- ---- the `end` line
 
--- whether a field writes this number
-abbrev pub count_of : ℕ → List ℕ → Option Bool
-count_of n field = option_map (λ m. m == n) (decimal_number field)
-
 -- whether three numbers are those of the locations, the edges and the marks
 unfoldable pub count_fields : Reading → List (List ℕ) → Option Bool
 count_fields r fs =
-    then_field (count_of (length r.locations)) fs (λ locations fs. then_field (count_of (length r.edges)) fs (λ edges fs.
-    then_field (count_of (length r.marks)) fs (λ marks fs. no_more (locations && edges && marks) fs)))
+    then_field (decimal_is (length r.locations)) fs (λ locations fs. then_field (decimal_is (length r.edges)) fs (λ edges fs.
+    then_field (decimal_is (length r.marks)) fs (λ marks fs. no_more (locations && edges && marks) fs)))
 
 unfoldable pub end_step : Reading → List (List ℕ) → Result Reading ℕ
 end_step r fs = or_fault FIELD (count_fields r fs) (λ hold. demand hold COUNT (Ok (record r { stage = stages.Ended })))

@@ -1,6 +1,6 @@
 ghost use Rattle.std.specs.Prelude.{◌≡◌, IfOk, option_map};
 ghost use Rattle.text_fields.specs.Lines.{fields};
-ghost use Rattle.automaton_text.specs.Reading.{address_fields, code_fields, end_fields, import_fields, location_fields, mark_fields, name_of, row_fields, row_of, suffix_fields};
+ghost use Rattle.automaton_text.specs.Reading.{code_fields, end_fields, import_fields, location_fields, mark_fields, name_of, row_fields, row_of, suffix_fields};
 
 use crate::OpenMark;
 use crate::causes::cause_of;
@@ -8,15 +8,6 @@ use bit_words::NoMemory;
 use memory_map::Name;
 use std::alloc::Global;
 use text_fields::{Fields, parse_decimal, parse_hex_bytes};
-
-/// An address and no more.
-#[tactic(auto, unfolding(crate::specs::Reading::address_fields), using(text_fields::proofs::FieldFacts::then_reads, text_fields::proofs::FieldFacts::then_lacks))]
-pub fn address_fields(mut fields: Fields) -> Option<u32>
-    ensures { result ≡ address_fields fields.entry }
-{
-    let at = fields.next_word()?;
-    if fields.is_done() { Some(at) } else { None }
-}
 
 fn name_of(alloc: Global, field: &[u8]) -> Result<Option<Name>, NoMemory>
     ensures { IfOk result (λ read. read ≡ name_of field.now) }

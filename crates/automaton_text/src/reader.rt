@@ -5,9 +5,7 @@ ghost use Rattle.text_fields.specs.Lines.{IsFaultOf, IsRefusalOf, fields};
 ghost use Rattle.automaton_text.specs.Reading.{automaton_read, code_step, count_fields, edge_step, end_step, entry_step, has_own_suffix, header_step, import_step, label_step, later_step, location_or_later_step, location_step, mark_step, nothing, is_line_above, is_mark_above, is_marks, is_named, own_name, told, told_fault, version_of, with_edge};
 
 use crate::code_text::is_code;
-use crate::line_fields::{
-    address_fields, code_fields, end_fields, import_fields, location_fields, mark_fields,
-};
+use crate::line_fields::{code_fields, end_fields, import_fields, location_fields, mark_fields};
 use crate::places::Places;
 use crate::stage::Stage;
 use crate::{Automaton, Location, OpenMark};
@@ -167,7 +165,7 @@ impl AutomatonReader {
         if word != b"entry".as_slice() {
             return Err(LineRefusal::Kind(WORD));
         }
-        let Some(entry) = address_fields(fields) else {
+        let Some(entry) = fields.only_word() else {
             return Err(LineRefusal::Kind(FIELD));
         };
         self.entry = entry;

@@ -4,7 +4,7 @@ use Rattle.std.proofs.Math.Nat.{mul-le-mul_left, pow-succ'}
 use Rattle.std.proofs.lemmas.Bool.Decides.{nat_tests}
 use Rattle.std.proofs.lemmas.List.Elements.{All-cons, All-nil}
 use Rattle.std.specs.Prelude.{All, option_and_then, option_map, if◌then◌else◌}
-use Rattle.text_fields.specs.Fields.{byte_of, word_of}
+use Rattle.text_fields.specs.Fields.{byte_of, word_of, bool_of}
 use Rattle.text_fields.specs.Hex.{digit_number, hex_bytes, number_after}
 use Rattle.text_fields.proofs.FieldTexts.{has_field, is_done}
 use Rattle.text_fields.proofs.HexFacts.{digit_is}
@@ -12,7 +12,7 @@ use Rattle.memory_map.specs.declared.choice.Choice.{Choice}
 use Rattle.memory_map.specs.declared.choice.Fill.{Fill}
 use Rattle.x86_machine.specs.StartLaws.{IsFill}
 use Rattle.run_replayer.specs.declared.record.RunStep.{RunStep}
-use Rattle.run_replayer.specs.Fields.{bases_of, choice_of, fill_bytes_of, fill_of, fits_fill, regs_of, step_of, truth_of}
+use Rattle.run_replayer.specs.Fields.{bases_of, choice_of, fill_bytes_of, fill_of, fits_fill, regs_of, step_of}
 use Rattle.run_replayer.specs.Laws.{IsChoice, IsStep}
 use Rattle.run_replayer.proofs.FieldForms.{fits_by}
 use Rattle.run_replayer.proofs.LineTexts.{chosen_by}
@@ -142,7 +142,7 @@ choice_small fs c e =
     let b = has_field word_of a.others _ c a.after in
     let d = has_field word_of b.others _ c b.after in
     let s = has_field word_of d.others _ c d.after in
-    let t = has_field truth_of s.others _ c s.after in
+    let t = has_field bool_of s.others _ c s.after in
     let w = is_done _ c t.others t.after in
     subst IsChoice w.same (record {
       flags = byte_small f.field f.value f.gives;

@@ -1,30 +1,11 @@
 -- Fields of start files and records that are read are the texts of what they give.
 use Rattle.std.proofs.Common.{◌≡◌, ℕ, zero, suc, ◌+◌, ◌*◌, ◌/◌, ◌%◌, ◌<◌, ◌==◌, Bool, true, false, List, [], ◌∷◌, length, Option, Some, None, refl, sym, ◌∙◌, ap, arith}
 use Rattle.std.proofs.lemmas.Bool.Decides.{nat_tests}
-use Rattle.std.specs.Prelude.{option_and_then, option_map, if◌then◌else◌, codes}
-use Rattle.std.specs.Str.{bytes_eq}
-use Rattle.std.proofs.lemmas.Slice.Eq.{bytes_eq-Decides}
+use Rattle.std.specs.Prelude.{option_and_then, option_map, if◌then◌else◌}
 use Rattle.text_fields.specs.Hex.{hex_bytes, hex_text}
 use Rattle.text_fields.proofs.FieldTexts.{bytes_back}
-use Rattle.run_replayer.specs.Fields.{bit_of, bits_of, fill_bytes_of, fits_fill, flags_of, truth_of}
-use Rattle.run_replayer.specs.Texts.{flag_digits, truth_digit}
-
--- ---- truths
-
-truth_by : (field : List ℕ) (ones noughts : Bool) (b : Bool) → bytes_eq field (codes "1") ≡ ones → bytes_eq field (codes "0") ≡ noughts
-    → ◌≡◌ {A = Option Bool} (if ones then Some true else if noughts then Some false else None) (Some b) → field ≡ truth_digit b
-truth_by field true noughts true e f h = (bytes_eq-Decides field (codes "1")).0 e
-truth_by field true noughts false e f h = cc
-truth_by field false true false e f h = (bytes_eq-Decides field (codes "0")).0 f
-truth_by field false true true e f h = cc
-truth_by field false false b e f h = cc
-
-pub truth_is : (field : List ℕ) (b : Bool) → truth_of field ≡ Some b → field ≡ truth_digit b
-truth_is field b h = truth_by field (bytes_eq field (codes "1")) (bytes_eq field (codes "0")) b refl refl h
-
-pub truth_read : (b : Bool) → truth_of (truth_digit b) ≡ Some b
-truth_read true = refl
-truth_read false = refl
+use Rattle.run_replayer.specs.Fields.{bit_of, bits_of, fill_bytes_of, fits_fill, flags_of}
+use Rattle.run_replayer.specs.Texts.{flag_digits}
 
 -- ---- six flags
 

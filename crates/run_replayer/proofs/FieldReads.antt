@@ -2,7 +2,7 @@
 use Rattle.std.proofs.Common.{◌≡◌, ℕ, zero, suc, ◌+◌, ◌*◌, ◌^◌, ◌/◌, ◌%◌, ◌<◌, ◌≤◌, Bool, true, false, List, [], ◌∷◌, length, Option, Some, refl, sym, ◌∙◌, ap, subst, arith}
 use Rattle.std.proofs.lemmas.Bool.Decides.{nat_tests}
 use Rattle.std.proofs.lemmas.List.Elements.{All-append, All-cons, All-nil}
-use Rattle.std.specs.Prelude.{All, option_and_then, option_map, nat_lt, ◌&&◌}
+use Rattle.std.specs.Prelude.{All, option_map, nat_lt, ◌&&◌}
 use Rattle.std.specs.List.{list_all}
 use Rattle.text_fields.specs.Hex.{hex2, hex8, hex_digit, hex_digits, hex_text}
 use Rattle.memory_map.specs.declared.choice.Choice.{Choice}
@@ -11,12 +11,11 @@ use Rattle.x86_machine.specs.StartLaws.{IsFill}
 use Rattle.run_replayer.specs.declared.record.EndWord.{EndWord}
 use Rattle.run_replayer.specs.declared.record.EndWord.TheVariants as ends
 use Rattle.run_replayer.specs.declared.record.RunStep.{RunStep}
-use Rattle.text_fields.specs.Fields.{byte_of, then_field, word_of}
-use Rattle.run_replayer.specs.Fields.{bases_of, bit_of, bits_of, choice_of, ending_of, fill_bytes_of, fill_of, fits_fill, flags_of, regs_of, six_flags_of, step_of, truth_of}
-use Rattle.run_replayer.specs.Texts.{end_word, flag_digits, truth_digit}
+use Rattle.text_fields.specs.Fields.{byte_of, then_field, word_of, bool_of, bool_text}
+use Rattle.run_replayer.specs.Fields.{bases_of, bit_of, bits_of, choice_of, ending_of, fill_bytes_of, fill_of, fits_fill, flags_of, regs_of, six_flags_of, step_of}
+use Rattle.run_replayer.specs.Texts.{end_word, flag_digits}
 use Rattle.run_replayer.specs.Laws.{IsChoice, IsStep}
-use Rattle.text_fields.proofs.FieldTexts.{byte_read, bytes_read, word_read}
-use Rattle.run_replayer.proofs.FieldForms.{truth_read}
+use Rattle.text_fields.proofs.FieldTexts.{byte_read, bytes_read, word_read, then_given, bool_read}
 use Rattle.run_replayer.proofs.LineTexts.{words_of}
 use Rattle.text_fields.proofs.Splitting.{ArePlain, IsPlain, one}
 
@@ -66,9 +65,9 @@ flags_plain n =
 above_all : (c : ℕ) (cs : List ℕ) → 32 < c → IsPlain cs → IsPlain (c ∷ cs)
 above_all c cs h plain = All-cons (λ b. 32 < b) c cs h plain
 
-pub truth_plain : (b : Bool) → IsPlain (truth_digit b)
-truth_plain true = above_all 49 [] (omega arith) (All-nil (λ b. 32 < b))
-truth_plain false = above_all 48 [] (omega arith) (All-nil (λ b. 32 < b))
+pub bool_plain : (b : Bool) → IsPlain (bool_text b)
+bool_plain true = above_all 49 [] (omega arith) (All-nil (λ b. 32 < b))
+bool_plain false = above_all 48 [] (omega arith) (All-nil (λ b. 32 < b))
 
 pub words_plain : (words : List ℕ) (more : List (List ℕ)) → ArePlain more → ArePlain (words_of words more)
 words_plain [] more plain = plain
@@ -76,12 +75,8 @@ words_plain (w ∷ words) more plain = one (hex8 w) (words_of words more) (word_
 
 -- ---- reads
 
-pub then_given : {A B : Type 0} (form : List ℕ → Option A) (field : List ℕ) (fs : List (List ℕ)) (go : A → List (List ℕ) → Option B) (a : A) → form field ≡ Some a → then_field form (field ∷ fs) go ≡ go a fs
-unfolding then_field
-then_given form field fs go a h = ap (option_and_then (λ b. go b fs)) h
-
 then_word : {B : Type 0} (n : ℕ) (fs : List (List ℕ)) (go : ℕ → List (List ℕ) → Option B) → n < 2 ^ 32 → then_field word_of (hex8 n ∷ fs) go ≡ go n fs
-then_word n fs go small = then_given word_of (hex8 n) fs go n (word_read n small)
+then_word n fs go small = then_given word_of (hex8 n) fs n go (word_read n small)
 
 pub bases_read : (f g : ℕ) → f < 2 ^ 32 → g < 2 ^ 32 → bases_of (words_of (f ∷ g ∷ []) []) ≡ Some (f, g)
 unfolding bases_of
@@ -142,7 +137,7 @@ flags_read n small =
 
 pub six_flags_read : (n : ℕ) → n < 64 → six_flags_of (flag_digits n ∷ []) ≡ Some n
 unfolding six_flags_of
-six_flags_read n small = then_given flags_of (flag_digits n) [] _ n (flags_read n small)
+six_flags_read n small = then_given flags_of (flag_digits n) [] n _ (flags_read n small)
 
 -- ---- fills
 
@@ -151,7 +146,7 @@ unfolding fill_of
 fill_read f is =
     let fits : fits_fill f.bytes ≡ true = (let some : 0 < length f.bytes = is.some in let most : length f.bytes ≤ 1024 = is.most in grind (arith, nat_tests)) in
     let bytes : fill_bytes_of (hex_text f.bytes) ≡ Some f.bytes = rw (bytes_read f.bytes is.bytes, fits) refl in
-    then_word f.at _ _ is.at ∙ then_given fill_bytes_of (hex_text f.bytes) [] _ f.bytes bytes
+    then_word f.at _ _ is.at ∙ then_given fill_bytes_of (hex_text f.bytes) [] f.bytes _ bytes
 
 -- ---- choices, without their fills, and steps
 
@@ -159,13 +154,13 @@ abbrev pub bare : Choice → Choice
 bare c = record c { fill = [] }
 
 abbrev pub choice_fields_of : Choice → List (List ℕ)
-choice_fields_of c = hex2 c.flags ∷ words_of (c.eax ∷ c.ecx ∷ c.edx ∷ c.base ∷ []) (truth_digit c.fails ∷ [])
+choice_fields_of c = hex2 c.flags ∷ words_of (c.eax ∷ c.ecx ∷ c.edx ∷ c.base ∷ []) (bool_text c.fails ∷ [])
 
 pub choice_read : (c : Choice) → IsChoice c → choice_of (choice_fields_of c) ≡ Some (bare c)
 unfolding choice_of
 choice_read c is =
-    then_given byte_of (hex2 c.flags) _ _ c.flags (byte_read c.flags is.flags) ∙ then_word c.eax _ _ is.eax ∙ then_word c.ecx _ _ is.ecx ∙ then_word c.edx _ _ is.edx
-    ∙ then_word c.base _ _ is.base ∙ then_given truth_of (truth_digit c.fails) [] _ c.fails (truth_read c.fails)
+    then_given byte_of (hex2 c.flags) _ c.flags _ (byte_read c.flags is.flags) ∙ then_word c.eax _ _ is.eax ∙ then_word c.ecx _ _ is.ecx ∙ then_word c.edx _ _ is.edx
+    ∙ then_word c.base _ _ is.base ∙ then_given bool_of (bool_text c.fails) [] c.fails _ (bool_read c.fails)
 
 pub step_read : (s : RunStep) → IsStep s → step_of (words_of (s.from ∷ s.to ∷ []) (choice_fields_of s.choice)) ≡ Some (record s { choice = bare s.choice })
 unfolding step_of

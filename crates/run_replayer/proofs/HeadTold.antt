@@ -1,6 +1,6 @@
 -- The lines with which start files and records begin, when they are read, are the texts of what they state.
 use Rattle.std.proofs.Common.{◌≡◌, ℕ, Bool, true, false, List, [], ◌∷◌, ◌++◌, Option, Some, None, Ok, Err, refl, sym, ◌∙◌, ap, append_assoc, append-nil}
-use Rattle.std.specs.Prelude.{Result, codes, option_map, if◌then◌else◌}
+use Rattle.std.specs.Prelude.{Result, codes, if◌then◌else◌}
 use Rattle.std.specs.Str.{bytes_eq}
 use Rattle.std.proofs.lemmas.Slice.Eq.{bytes_eq-Decides}
 use Rattle.text_fields.specs.Line.{newline}
@@ -15,6 +15,7 @@ use Rattle.run_replayer.specs.Grammar.{behind, behind_word, due_step, is_rest, o
 use Rattle.run_replayer.specs.Texts.{bases_line, flags_line, regs_line}
 use Rattle.run_replayer.proofs.LineTexts.{bases_told, flags_told, regs_told}
 use Rattle.text_fields.proofs.Splitting.{fields_back, spaced}
+use Rattle.text_fields.proofs.Found.{mapped}
 
 -- a line begins with a word, and its other fields make this
 pub record Behind {A : Type 0} (word line : List ℕ) (go : List (List ℕ) → Option A) (a : A) : Type 0 where
@@ -41,10 +42,6 @@ behind_told {A} word line go a h = by (fields line) refl h
     by : (fs : List (List ℕ)) → fields line ≡ fs → or_word (behind word fs) go ≡ Ok a → Behind word line go a
     by [] parts k = cc
     by (first ∷ others) parts k = worded word line first others go a (bytes_eq first word) parts refl k
-
-pub mapped : {A B : Type 0} (f : A → B) (o : Option A) (b : B) → option_map f o ≡ Some b → (a : A) × (o ≡ Some a) × (f a ≡ b)
-mapped f None b h = cc
-mapped f (Some a) b h = (a, refl, cc)
 
 -- what was stated before the line that is due
 unfoldable pub told_due : List ℕ → Due → Head → List ℕ

@@ -9,11 +9,11 @@ use Rattle.memory_map.specs.declared.choice.Choice.{Choice}
 use Rattle.memory_map.specs.declared.choice.Fill.{Fill}
 use Rattle.run_replayer.specs.declared.record.EndWord.{EndWord}
 use Rattle.run_replayer.specs.declared.record.RunStep.{RunStep}
-use Rattle.text_fields.specs.Fields.{byte_of, word_of}
-use Rattle.run_replayer.specs.Fields.{bases_of, choice_of, end_of, end_words, ending_of, fill_bytes_of, fill_of, flags_of, regs_of, six_flags_of, step_of, truth_of}
-use Rattle.run_replayer.specs.Texts.{bases_line, choice_fields, end_word, fill_line, flag_digits, flags_line, regs_line, truth_digit, word_field, word_fields}
-use Rattle.text_fields.proofs.FieldTexts.{HasField, byte_is, has_field, is_done, word_is}
-use Rattle.run_replayer.proofs.FieldForms.{fill_bytes_is, flags_is, truth_is}
+use Rattle.text_fields.specs.Fields.{byte_of, word_of, bool_of, bool_text}
+use Rattle.run_replayer.specs.Fields.{bases_of, choice_of, end_of, end_words, ending_of, fill_bytes_of, fill_of, flags_of, regs_of, six_flags_of, step_of}
+use Rattle.run_replayer.specs.Texts.{bases_line, choice_fields, end_word, fill_line, flag_digits, flags_line, regs_line, word_field, word_fields}
+use Rattle.text_fields.proofs.FieldTexts.{HasField, byte_is, has_field, is_done, word_is, bool_is}
+use Rattle.run_replayer.proofs.FieldForms.{fill_bytes_is, flags_is}
 use Rattle.text_fields.proofs.Splitting.{spaced}
 
 -- a field before others, both known
@@ -106,11 +106,11 @@ six_joined : (f a b c d gap t : List ℕ) → f ++ (a ++ (b ++ (c ++ (d ++ ((gap
 six_joined f a b c d gap t = simp (append_assoc, append-nil)
 
 pub choice_explicit : (flags eax ecx edx base : ℕ) (fails : Bool)
-    → spaced (hex2 flags ∷ words_of (eax ∷ ecx ∷ edx ∷ base ∷ []) (truth_digit fails ∷ []))
+    → spaced (hex2 flags ∷ words_of (eax ∷ ecx ∷ edx ∷ base ∷ []) (bool_text fails ∷ []))
     ≡ choice_fields (record { flags = flags; eax = eax; ecx = ecx; edx = edx; base = base; fails = fails; fill = [] })
 unfolding choice_fields
 choice_explicit flags eax ecx edx base fails =
-    six_joined (space ++ hex2 flags) (word_field eax) (word_field ecx) (word_field edx) (word_field base) space (truth_digit fails)
+    six_joined (space ++ hex2 flags) (word_field eax) (word_field ecx) (word_field edx) (word_field base) space (bool_text fails)
 
 pub choice_told : (fs : List (List ℕ)) (c : Choice) → choice_of fs ≡ Some c → IsChosen fs c
 unfolding choice_of
@@ -120,12 +120,12 @@ choice_told fs c e =
     let b = has_field word_of a.others _ c a.after in
     let d = has_field word_of b.others _ c b.after in
     let s = has_field word_of d.others _ c d.after in
-    let t = has_field truth_of s.others _ c s.after in
+    let t = has_field bool_of s.others _ c s.after in
     let w = is_done _ c t.others t.after in
-    let last : s.others ≡ truth_digit t.value ∷ [] = behind_field s.others t.others [] t.field (truth_digit t.value) t.begins (truth_is t.field t.value t.gives) w.none in
-    let words : f.others ≡ words_of (a.value ∷ b.value ∷ d.value ∷ s.value ∷ []) (truth_digit t.value ∷ []) =
+    let last : s.others ≡ bool_text t.value ∷ [] = behind_field s.others t.others [] t.field (bool_text t.value) t.begins (bool_is t.field t.value t.gives) w.none in
+    let words : f.others ≡ words_of (a.value ∷ b.value ∷ d.value ∷ s.value ∷ []) (bool_text t.value ∷ []) =
     word_then f.others _ c a _ (word_then a.others _ c b _ (word_then b.others _ c d _ (word_then d.others _ c s _ last))) in
-    let all : fs ≡ hex2 f.value ∷ words_of (a.value ∷ b.value ∷ d.value ∷ s.value ∷ []) (truth_digit t.value ∷ []) =
+    let all : fs ≡ hex2 f.value ∷ words_of (a.value ∷ b.value ∷ d.value ∷ s.value ∷ []) (bool_text t.value ∷ []) =
     behind_field fs f.others _ f.field (hex2 f.value) f.begins (byte_is f.field f.value f.gives) words in
     record {
       text = ap spaced all ∙ choice_explicit f.value a.value b.value d.value s.value t.value ∙ ap choice_fields w.same;

@@ -18,9 +18,10 @@ use Rattle.run_replayer.specs.Grammar.{StatesRecord, due_step, head_step, is_res
 use Rattle.run_replayer.specs.Laws.{IsInBounds, IsStep}
 use Rattle.run_replayer.specs.Texts.{record_header}
 use Rattle.run_replayer.proofs.Bounds.{AreWords, bases_small, fill_small, no_word, one_word, regs_small, step_small}
-use Rattle.run_replayer.proofs.HeadTold.{behind_told, field_made, mapped}
+use Rattle.run_replayer.proofs.HeadTold.{behind_told, field_made}
 use Rattle.run_replayer.proofs.RecordTold.{Keeps, nothing_kept, tells, told}
 use Rattle.run_replayer.proofs.StartTold.{within_made}
+use Rattle.text_fields.proofs.Found.{mapped}
 
 record HeadFits (h : Head) : Type 0 where
   registers : length h.regs ≡ 8

@@ -1,9 +1,7 @@
 -- The text of a record is read as that record.
 use Rattle.std.proofs.Common.{◌≡◌, ℕ, suc, ◌^◌, ◌<◌, ◌==◌, true, false, List, [], ◌∷◌, ◌++◌, length, Option, Some, None, Ok, refl, sym, ◌∙◌, ap, subst, arith, append_assoc, append-nil}
 use Rattle.std.proofs.lemmas.List.Elements.{All-append}
-use Rattle.std.proofs.lemmas.Slice.Eq.{bytes_eq-Decides}
 use Rattle.std.specs.Prelude.{All, codes, flat_map, is_some, option_map, replicate}
-use Rattle.std.specs.Str.{bytes_eq}
 use Rattle.text_fields.specs.Hex.{hex2, hex8, hex_text}
 use Rattle.text_fields.specs.Line.{newline, space}
 use Rattle.memory_map.specs.declared.choice.Choice.{Choice}
@@ -19,11 +17,13 @@ use Rattle.run_replayer.specs.declared.record_reader.RecordReader.{RecordReader}
 use Rattle.run_replayer.specs.Fields.{bases_of, regs_of, six_flags_of}
 use Rattle.run_replayer.specs.Grammar.{StatesRecord, behind_word, head_step, is_rest, no_record, or_field, record_grammar, record_rest, record_step, with_record_fill, within}
 use Rattle.run_replayer.specs.Laws.{IsInBounds, IsStep}
-use Rattle.run_replayer.specs.Texts.{bases_line, choice_fields, end_word, fill_line, flag_digits, flags_line, record_header, record_text, regs_line, start_lines, step_lines, truth_digit, word_field}
-use Rattle.run_replayer.proofs.FieldReads.{bases_read, byte_plain, bytes_plain, choice_fields_of, end_plain, end_read, fill_read, flags_plain, plain_by, regs_read, six_flags_read, step_read, truth_plain, word_plain, words_plain}
+use Rattle.run_replayer.specs.Texts.{bases_line, choice_fields, end_word, fill_line, flag_digits, flags_line, record_header, record_text, regs_line, start_lines, step_lines, word_field}
+use Rattle.run_replayer.proofs.FieldReads.{bases_read, byte_plain, bytes_plain, choice_fields_of, end_plain, end_read, fill_read, flags_plain, plain_by, regs_read, six_flags_read, step_read, bool_plain, word_plain, words_plain}
 use Rattle.run_replayer.proofs.FillFacts.{filled_step}
 use Rattle.run_replayer.proofs.LineTexts.{bases_explicit, choice_explicit, fill_explicit, flags_explicit, regs_explicit, words_of, words_spaced}
 use Rattle.text_fields.proofs.Splitting.{ArePlain, IsPlain, Reaches, fields_spaced, none, one, plain_line, reaches_both, reaches_end, reaches_line, reaches_none, spaced, spaced_line}
+use Rattle.text_fields.proofs.Found.{word_same}
+use Rattle.text_fields.specs.Fields.{bool_text}
 
 -- where a record stands while it is read
 abbrev at : Due → List ℕ → ℕ → ℕ → ℕ → List Fill → List RunStep → Option EndWord → RecordReader
@@ -40,12 +40,9 @@ line_reached : (s t : RecordReader) (word : List ℕ) (fs : List (List ℕ)) →
     → Reaches record_grammar s ((word ++ spaced fs) ++ newline) t
 line_reached s t word fs plain others on taken = reaches_line record_grammar s t (word ++ spaced fs) (ends_late word fs plain others) on taken
 
-same_word : (w : List ℕ) → bytes_eq w w ≡ true
-same_word w = (bytes_eq-Decides w w).1 refl
-
 -- a line that begins with its word is read by its fields
 word_read : {A : Type 0} (word : List ℕ) (fs : List (List ℕ)) (go : List (List ℕ) → Option A) (a : A) → IsPlain word → ArePlain fs → go fs ≡ Some a → behind_word word (word ++ spaced fs) go ≡ Ok a
-word_read word fs go a plain others made = rw (fields_spaced word fs plain others, same_word word) (ap or_field made)
+word_read word fs go a plain others made = rw (fields_spaced word fs plain others, word_same word) (ap or_field made)
 
 -- ---- the head
 
@@ -157,8 +154,8 @@ step_fields s = words_of (s.from ∷ s.to ∷ []) (choice_fields_of s.choice)
 
 choice_plain : (c : Choice) → ArePlain (choice_fields_of c)
 choice_plain c =
-    one (hex2 c.flags) (words_of (c.eax ∷ c.ecx ∷ c.edx ∷ c.base ∷ []) (truth_digit c.fails ∷ [])) (byte_plain c.flags)
-    (words_plain (c.eax ∷ c.ecx ∷ c.edx ∷ c.base ∷ []) (truth_digit c.fails ∷ []) (one (truth_digit c.fails) [] (truth_plain c.fails) none))
+    one (hex2 c.flags) (words_of (c.eax ∷ c.ecx ∷ c.edx ∷ c.base ∷ []) (bool_text c.fails ∷ [])) (byte_plain c.flags)
+    (words_plain (c.eax ∷ c.ecx ∷ c.edx ∷ c.base ∷ []) (bool_text c.fails ∷ []) (one (bool_text c.fails) [] (bool_plain c.fails) none))
 
 step_plain : (s : RunStep) → ArePlain (step_fields s)
 unfolding step_fields

@@ -16,10 +16,11 @@ use Rattle.run_replayer.specs.Fields.{ending_of, fill_of, step_of}
 use Rattle.text_fields.specs.Lines.{WORD}
 use Rattle.run_replayer.specs.Grammar.{IsRecord, StatesRecord, head_step, is_rest, no_record, or_field, record_grammar, record_read, record_rest, record_step, with_record_fill, with_step_fill, within}
 use Rattle.run_replayer.specs.Texts.{bases_line, choice_fields, end_word, fill_line, flags_line, record_header, record_text, regs_line, start_lines, step_lines, word_field}
-use Rattle.run_replayer.proofs.HeadTold.{due_told, field_made, first_gains, four, fourth_gains, mapped, second_gains, third_gains, told_due, told_due-fill, told_due-rest}
+use Rattle.run_replayer.proofs.HeadTold.{due_told, field_made, first_gains, four, fourth_gains, second_gains, third_gains, told_due, told_due-fill, told_due-rest}
 use Rattle.run_replayer.proofs.LineTexts.{ending_told, fill_told, step_told}
 use Rattle.text_fields.proofs.Splitting.{Tells, fields_back, kept_lines, spaced, told_text}
 use Rattle.run_replayer.proofs.StartTold.{flat_map-last, flat_map-with_last, within_made}
+use Rattle.text_fields.proofs.Found.{mapped}
 
 step_gains : (fill : Fill) (s : RunStep) → step_lines (with_step_fill fill s) ≡ step_lines s ++ fill_line fill
 unfolding step_lines choice_fields

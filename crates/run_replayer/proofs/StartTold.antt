@@ -17,9 +17,10 @@ use Rattle.text_fields.specs.Lines.{WORD}
 use Rattle.run_replayer.specs.Grammar.{IsStart, StatesStart, head_step, is_rest, no_start, or_field, start_grammar, start_rest, start_step, with_fill, with_last, with_start_fill, within}
 use Rattle.run_replayer.specs.Texts.{bases_line, choice_fields, choice_lines, fill_line, flags_line, regs_line, start_header, start_lines, start_text}
 use Rattle.text_fields.proofs.FieldTexts.{is_done}
-use Rattle.run_replayer.proofs.HeadTold.{due_told, field_made, first_gains, four, fourth_gains, mapped, second_gains, third_gains, told_due, told_due-fill, told_due-rest}
+use Rattle.run_replayer.proofs.HeadTold.{due_told, field_made, first_gains, four, fourth_gains, second_gains, third_gains, told_due, told_due-fill, told_due-rest}
 use Rattle.run_replayer.proofs.LineTexts.{choice_told, fill_told}
 use Rattle.text_fields.proofs.Splitting.{Tells, fields_back, kept_lines, spaced, told_text}
+use Rattle.text_fields.proofs.Found.{mapped}
 
 pub flat_map-append : {X : Type 0} (f : X → List ℕ) (xs ys : List X) → flat_map f (xs ++ ys) ≡ flat_map f xs ++ flat_map f ys
 flat_map-append f [] ys = refl

@@ -1,9 +1,9 @@
 -- The fields of the lines of start files and run records: what each form of field writes, and lines by the forms of their fields.
-use Rattle.std.specs.Prelude.{ℕ, ◌+◌, ◌*◌, ◌==◌, Bool, true, false, List, [], ◌∷◌, length, codes, find, Option, None, Some, option_and_then, option_map, nat_le, ◌&&◌, if◌then◌else◌}
+use Rattle.std.specs.Prelude.{ℕ, ◌+◌, ◌*◌, ◌==◌, Bool, List, [], ◌∷◌, length, find, Option, None, Some, option_and_then, option_map, nat_le, ◌&&◌, if◌then◌else◌}
 use Rattle.std.specs.Str.{bytes_eq}
 use Rattle.memory_map.specs.declared.choice.Choice.{Choice}
 use Rattle.memory_map.specs.declared.choice.Fill.{Fill}
-use Rattle.text_fields.specs.Fields.{byte_of, no_more, then_field, word_of}
+use Rattle.text_fields.specs.Fields.{bool_of, byte_of, no_more, then_field, word_of}
 use Rattle.text_fields.specs.Hex.{hex_bytes}
 use Rattle.run_replayer.specs.declared.record.EndWord.{EndWord}
 use Rattle.run_replayer.specs.declared.record.EndWord.TheVariants as ends
@@ -24,9 +24,6 @@ bits_of (c ∷ cs) = option_and_then (λ bit. option_map (λ others. bit + 2 * o
 -- six flags
 abbrev pub flags_of : List ℕ → Option ℕ
 flags_of field = if length field == 6 then bits_of field else None
-
-abbrev pub truth_of : List ℕ → Option Bool
-truth_of field = if bytes_eq field (codes "1") then Some true else if bytes_eq field (codes "0") then Some false else None
 
 -- a fill has 1 to 1,024 bytes
 abbrev pub fits_fill : List ℕ → Bool
@@ -65,7 +62,7 @@ fill_of fs = then_field word_of fs (λ at fs. then_field fill_bytes_of fs (λ by
 unfoldable pub choice_of : List (List ℕ) → Option Choice
 choice_of fs =
     then_field byte_of fs (λ flags fs. then_field word_of fs (λ eax fs. then_field word_of fs (λ ecx fs. then_field word_of fs (λ edx fs.
-    then_field word_of fs (λ base fs. then_field truth_of fs (λ fails fs.
+    then_field word_of fs (λ base fs. then_field bool_of fs (λ fails fs.
     no_more (record { flags = flags; eax = eax; ecx = ecx; edx = edx; base = base; fails = fails; fill = [] }) fs))))))
 
 -- FROM TO and a choice

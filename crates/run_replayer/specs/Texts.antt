@@ -9,6 +9,7 @@ use Rattle.run_replayer.specs.declared.record.EndWord.{EndWord}
 use Rattle.run_replayer.specs.declared.record.EndWord.TheVariants as ends
 use Rattle.run_replayer.specs.declared.record.RunStep.{RunStep}
 use Rattle.run_replayer.specs.declared.record.RunRecord.{RunRecord}
+use Rattle.text_fields.specs.Fields.{bool_text}
 
 -- ---- fields
 
@@ -29,12 +30,9 @@ flag_digits flags =
     bit_digit (flags % 2) ∷ bit_digit (flags / 2 % 2) ∷ bit_digit (flags / 4 % 2)
     ∷ bit_digit (flags / 8 % 2) ∷ bit_digit (flags / 16 % 2) ∷ bit_digit (flags / 32 % 2) ∷ []
 
-abbrev pub truth_digit : Bool → List ℕ
-truth_digit b = if b then codes "1" else codes "0"
-
 -- FLAGS EAX ECX EDX BASE FAILS, each behind a space
 unfoldable pub choice_fields : Choice → List ℕ
-choice_fields c = space ++ hex2 c.flags ++ word_fields (c.eax ∷ c.ecx ∷ c.edx ∷ c.base ∷ []) ++ space ++ truth_digit c.fails
+choice_fields c = space ++ hex2 c.flags ++ word_fields (c.eax ∷ c.ecx ∷ c.edx ∷ c.base ∷ []) ++ space ++ bool_text c.fails
 
 -- ---- lines
 

@@ -1,6 +1,6 @@
 ghost use Rattle.std.specs.Prelude.{◌≡◌, ◌<◌, ◌≤◌, ◌^◌, IfOk, IfSome, MatchOption, length};
-ghost use Rattle.run_replayer.specs.Fields.{bases_of, bit_of, bits_of, choice_of, end_of, ending_of, fill_bytes_of, fill_of, fits_fill, flags_of, regs_of, six_flags_of, step_of, truth_of};
-ghost use Rattle.text_fields.specs.Fields.{Lacks, Reads};
+ghost use Rattle.run_replayer.specs.Fields.{bases_of, bit_of, bits_of, choice_of, end_of, ending_of, fill_bytes_of, fill_of, fits_fill, flags_of, regs_of, six_flags_of, step_of};
+ghost use Rattle.text_fields.specs.Fields.{Lacks, Reads, bool_of};
 
 use crate::print::end_word;
 use crate::six_flags::SixFlags;
@@ -8,7 +8,7 @@ use crate::{EndWord, RunStep};
 use bit_words::NoMemory;
 use memory_map::{Bytes, Choice, Fill, Items};
 use std::alloc::Global;
-use text_fields::{Fields, parse_hex_bytes};
+use text_fields::{Fields, parse_bool, parse_hex_bytes};
 
 // The next field's flags, where it has six.
 fn next_flags(fields: &mut Fields) -> Option<SixFlags>
@@ -19,9 +19,9 @@ fn next_flags(fields: &mut Fields) -> Option<SixFlags>
 
 // The next field's truth.
 fn next_truth(fields: &mut Fields) -> Option<bool>
-    ensures { MatchOption result (Lacks truth_of fields.old) (λ b. Reads truth_of fields.old b fields.new) }
+    ensures { MatchOption result (Lacks bool_of fields.old) (λ b. Reads bool_of fields.old b fields.new) }
 {
-    truth_of(fields.next_field()?)
+    parse_bool(fields.next_field()?)
 }
 
 // The next field's word of an end.
@@ -76,18 +76,6 @@ fn flags_of(field: &[u8]) -> Option<SixFlags>
         return None;
     }
     Some(SixFlags::new(bits_of(field)?))
-}
-
-fn truth_of(field: &[u8]) -> Option<bool>
-    ensures { result ≡ truth_of field.now }
-{
-    if field == b"1".as_slice() {
-        Some(true)
-    } else if field == b"0".as_slice() {
-        Some(false)
-    } else {
-        None
-    }
 }
 
 const END_WORDS: [EndWord; 6] = [

@@ -1,11 +1,11 @@
 ghost use Rattle.std.specs.Prelude.{◌≡◌, ◌++◌, ◌<◌, IfOk, OnOk, flat_map};
-ghost use Rattle.run_replayer.specs.Texts.{bases_line, bit_digit, choice_fields, end_word, fill_line, flag_digits, flags_line, record_text, regs_line, start_lines, step_lines, truth_digit, word_field, word_fields};
+ghost use Rattle.run_replayer.specs.Texts.{bases_line, bit_digit, choice_fields, end_word, fill_line, flag_digits, flags_line, record_text, regs_line, start_lines, step_lines, word_field, word_fields};
 
 use crate::{EndWord, RunRecord, RunStep};
 use bit_words::NoMemory;
 use memory_map::{Choice, Fill};
 use std::alloc::Global;
-use text_fields::{push_bytes, push_hex_bytes, push_hex2, push_hex8};
+use text_fields::{push_bool, push_bytes, push_hex_bytes, push_hex2, push_hex8};
 use x86_machine::StartFile;
 
 #[tactic(auto, using(std::proofs::Common::append_assoc))]
@@ -50,12 +50,6 @@ fn push_flags(out: &mut Vec<u8>, flags: u8) -> Result<(), NoMemory>
     )
 }
 
-fn truth_digit(b: bool) -> &'static [u8]
-    ensures { result.now ≡ truth_digit b }
-{
-    if b { b"1" } else { b"0" }
-}
-
 #[tactic(auto, unfolding(crate::specs::Texts::choice_fields), using(std::proofs::Common::append_assoc))]
 fn push_choice(out: &mut Vec<u8>, c: &Choice) -> Result<(), NoMemory>
     ensures { OnOk result (out.new.items ≡ out.old.items ++ choice_fields c.now) }
@@ -64,7 +58,7 @@ fn push_choice(out: &mut Vec<u8>, c: &Choice) -> Result<(), NoMemory>
     push_hex2(out, c.flags)?;
     push_words(out, &[c.eax, c.ecx, c.edx, c.base])?;
     push_bytes(out, b" ")?;
-    push_bytes(out, truth_digit(c.fails))
+    push_bool(out, c.fails)
 }
 
 #[tactic(auto, unfolding(crate::specs::Texts::fill_line), using(std::proofs::Common::append_assoc))]

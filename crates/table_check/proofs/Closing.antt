@@ -20,10 +20,7 @@ use Rattle.flow_worklist.proofs.StepSound.{analysis_sound}
 use Rattle.table_check.specs.declared.table.Table.{Table}
 use Rattle.table_check.specs.Closed.{IsYes, answer_by, broken_by, clause_broken, edges_from, edges_of, first_broken, has_no_cause, is_covered, is_marked, leads_to_rows, rows_broken, starts, table_answer, table_edges, START, CAUSE, NEXT}
 use Rattle.table_check.specs.Laws.{IsClosedTable, IsMarked, RunsAreFollowedBy}
-
-both : (s t : Bool) → (s && t) ≡ true → (s ≡ true) × (t ≡ true)
-both true t e = (refl, e)
-both false t e = absurd (cc)
+use Rattle.std.proofs.lemmas.Bool.{and_parts}
 
 same_place : (a b : ℕ) → (a == b) ≡ true → a ≡ b
 same_place a b e = grind (arith, nat_tests)
@@ -49,7 +46,7 @@ any_found t (x ∷ xs) h = found_by t x xs (t x) refl h (any_found t xs)
 pub all_of : {X : Type 0} (t : X → Bool) (xs : List X) (x : X) → list_all t xs ≡ true → Contains xs x → t x ≡ true
 all_of t [] x h held = absurd (Contains-none x held)
 all_of t (y ∷ ys) x h held =
-    let (own, others) = both (t y) (list_all t ys) h in
+    let (own, others) = and_parts (t y) (list_all t ys) h in
     elim (Contains-cases y x ys held) [
       | inl e ↦ ap t (sym e) ∙ own
       | inr k ↦ all_of t ys x others k
@@ -129,7 +126,7 @@ module _ {S E C W : Type 0} (a : Analysis S E C W) (marked : List ℕ) (rows : L
   represented : (pair : ℕ × S) → is_covered a marked rows pair ≡ true → IsRepresented a rows pair.0 pair.1
   represented pair e =
       let f = any_found (λ (row : ℕ × S). row.0 == pair.0 && a.covers row.1 pair.1) rows e in
-      let (at, covers) = both (f.item.0 == pair.0) (a.covers f.item.1 pair.1) f.passes in
+      let (at, covers) = and_parts (f.item.0 == pair.0) (a.covers f.item.1 pair.1) f.passes in
       let P : ℕ → Type 0 = λ l. Contains rows (l, f.item.1) in
       record { row = f.item.1; in_rows = subst P (same_place f.item.0 pair.0 at) f.held; stands = inl (inr covers) }
 
@@ -155,7 +152,7 @@ module _ {S E C W : Type 0} (a : Analysis S E C W) (marked : List ℕ) (rows : L
   closed_by : (first : Option (ℕ × S)) → slice_get rows 0 ≡ first → NoneBroken → IsClosed a rows (edges_of a marked rows) (Contains marked)
   closed_by None at n = let none : rows ≡ [] = first_none rows at in let e : (length rows == 0) ≡ true = ap (λ (l : List (ℕ × S)). length l == 0) none in absurd (let some = n.some in cc)
   closed_by (Some row) at n =
-      let (entry, covers) = both (row.0 == a.entry) (a.covers row.1 a.start) (first_starts row (no_clause 0 row n at)) in
+      let (entry, covers) = and_parts (row.0 == a.entry) (a.covers row.1 a.start) (first_starts row (no_clause 0 row n at)) in
       let P : ℕ → Type 0 = λ l. Contains rows (l, row.1) in
       record {
         first = row.1;

@@ -13,11 +13,10 @@ use Rattle.memory_map.specs.Image.{Image, IsLoaded}
 use Rattle.memory_map.specs.Range.{USER_LOW, byte_at, maps_all}
 use Rattle.memory_map.proofs.Mappings.{mapped_inside}
 use Rattle.text_fields.specs.Decimal.{decimal_below}
-use Rattle.text_fields.specs.Fields.{no_more, then_field, word_of}
+use Rattle.text_fields.specs.Fields.{no_more, then_field, word_of, bool_of, bool_text}
 use Rattle.text_fields.specs.Hex.{hex8, hex_digit, hex_digits}
 use Rattle.text_fields.proofs.DecimalFacts.{decimal_read}
-use Rattle.text_fields.proofs.FieldFacts.{then_reads}
-use Rattle.text_fields.proofs.FieldTexts.{word_read}
+use Rattle.text_fields.proofs.FieldTexts.{word_read, then_given, bool_read}
 use Rattle.bit_words.specs.declared.width.Width.{Width}
 use Rattle.bit_words.specs.declared.width.Width.TheVariants.{B8, B16, B32}
 use Rattle.bit_words.specs.Width.{bytes_of, is_signed, signed_of, word_of as word_in}
@@ -41,21 +40,15 @@ use Rattle.abstract_state.specs.declared.truth.Truth.TheVariants.{Yes, No, Unkno
 use Rattle.abstract_state.specs.declared.note.Note.{Note}
 use Rattle.abstract_state.specs.declared.note.Note.TheVariants.{Register, Word}
 use Rattle.abstract_state.specs.Building.{are_image_bytes, is_dirty_of, is_well_note}
-use Rattle.table_check.specs.Fields.{address_fields, area_of, bit_of, block_by, block_fields, block_of, cut_at, dirty_fields, fact_fields, flags_fields, flags_of, inside_in, k_fields, k_of, low_in, many_of, note_fields, place_by, region_by, region_of, register_note, register_of, regs_fields, truth_of, truths_by, value_by, value_of, width_of, word_note}
-use Rattle.table_check.specs.Text.{area_text, bit_text, count_text, offset_text, region_text, truth_code, value_text}
+use Rattle.table_check.specs.Fields.{area_of, block_by, block_fields, block_of, dirty_fields, fact_fields, flags_fields, flags_of, inside_in, k_fields, k_of, low_in, many_of, note_fields, place_by, region_by, region_of, register_note, register_of, regs_fields, truth_of, truths_by, value_by, value_of, width_of, word_note}
+use Rattle.table_check.specs.Text.{area_text, count_text, offset_text, region_text, truth_code, value_text}
 use Rattle.table_check.specs.TextLaws.{fits_area, fits_count, fits_dirty, fits_fact, fits_note, fits_region, fits_value, is_made, is_word}
-use Rattle.table_check.proofs.Cutting.{cut-nowhere, cut-there, lacks}
 use Rattle.table_check.proofs.FieldsTold.{block_list, dirty_list, fact_list, note_list}
+use Rattle.std.proofs.lemmas.Bool.{and_parts, and_from}
+use Rattle.text_fields.proofs.Cutting.{cut-there, cut-nowhere, lacks}
+use Rattle.text_fields.specs.Lines.{cut_at}
 
 -- ---- small facts
-
-pub both : (s t : Bool) → (s && t) ≡ true → (s ≡ true) × (t ≡ true)
-both true t e = (refl, e)
-both false t e = absurd (cc)
-
-pub both_true : (s t : Bool) → s ≡ true → t ≡ true → (s && t) ≡ true
-both_true true t e f = f
-both_true false t e f = e
 
 pub word_small : (n : ℕ) → is_word n ≡ true → n < 2 ^ 32
 word_small n e = grind (arith, nat_tests)
@@ -69,22 +62,16 @@ not_less a b h = grind (arith, nat_tests)
 less_of : (a b : ℕ) → nat_lt a b ≡ true → a < b
 less_of a b e = grind (arith, nat_tests)
 
-same_number : (n : ℕ) → (n == n) ≡ true
-same_number n = grind (arith, nat_tests)
-
-pub read_as : {A B : Type 0} (form : List ℕ → Option A) (f : List ℕ) (fs : List (List ℕ)) (a : A) (go : A → List (List ℕ) → Option B) → form f ≡ Some a → then_field form (f ∷ fs) go ≡ go a fs
-read_as form f fs a go e = then_reads form (f ∷ fs) fs a go (record { field = f; begins = refl; gives = e })
-
 -- ---- bytes of texts
 
 all_both : (p : ℕ → Bool) (a b : List ℕ) → list_all p a ≡ true → list_all p b ≡ true → list_all p (a ++ b) ≡ true
-all_both p a b e f = list_all-append p a b ∙ both_true (list_all p a) (list_all p b) e f
+all_both p a b e f = list_all-append p a b ∙ and_from (list_all p a) (list_all p b) e f
 
 all_digits : (p : ℕ → Bool) → ((d : ℕ) → d < 16 → p (hex_digit d) ≡ true) → (k n : ℕ) → list_all p (hex_digits k n) ≡ true
 unfolding hex_digits
 all_digits p digit zero n = refl
 all_digits p digit (suc k) n =
-    all_both p (hex_digits k (n / 16)) (hex_digit (n % 16) ∷ []) (all_digits p digit k (n / 16)) (both_true (p (hex_digit (n % 16))) true (digit (n % 16) (omega arith)) refl)
+    all_both p (hex_digits k (n / 16)) (hex_digit (n % 16) ∷ []) (all_digits p digit k (n / 16)) (and_from (p (hex_digit (n % 16))) true (digit (n % 16) (omega arith)) refl)
 
 all_word : (p : ℕ → Bool) → ((d : ℕ) → d < 16 → p (hex_digit d) ≡ true) → (n : ℕ) → list_all p (hex8 n) ≡ true
 unfolding hex8
@@ -99,8 +86,8 @@ all_region p digit stack fs gs block dot one none Gs = gs
 all_region p digit stack fs gs block dot one none (Block site size zeroed) =
     let a = hex8 site in
     let b = hex8 size in
-    let bit : list_all p (bit_text zeroed) ≡ true = elim zeroed as (λ z. list_all p (bit_text z) ≡ true) [ true ↦ one | false ↦ none ] in
-    all_both p (codes "b." ++ a ++ codes "." ++ b ++ codes ".") (bit_text zeroed)
+    let bit : list_all p (bool_text zeroed) ≡ true = elim zeroed as (λ z. list_all p (bool_text z) ≡ true) [ true ↦ one | false ↦ none ] in
+    all_both p (codes "b." ++ a ++ codes "." ++ b ++ codes ".") (bool_text zeroed)
     (all_both p (codes "b." ++ a ++ codes "." ++ b) (codes ".")
     (all_both p (codes "b." ++ a ++ codes ".") b (all_both p (codes "b." ++ a) (codes ".") (all_both p (codes "b.") a block (all_word p digit site)) dot) (all_word p digit size)) dot) bit
 
@@ -145,7 +132,7 @@ plain_numeral : (ds : List ℕ) → AllDigits 10 ds → is_plain ds ≡ true
 plain_numeral [] all = refl
 plain_numeral (c ∷ cs) all =
     let range = digit_from_value c all.0 in
-    both_true (nat_lt 32 c) (is_plain cs) (above_space c (omega (arith, range))) (plain_numeral cs all.1)
+    and_from (nat_lt 32 c) (is_plain cs) (above_space c (omega (arith, range))) (plain_numeral cs all.1)
 
 pub plain_decimal : (n : ℕ) → n < 2 ^ 64 → is_plain (decimal n) ≡ true
 plain_decimal n small = plain_numeral (decimal n) (decimal_is_IsNumeral n small).0.1
@@ -226,9 +213,9 @@ record Lies (a : Area) (low end : ℤ) : Type 0 where
 
 lies_of : (a : Area) (low end : ℤ) → (int_le (bounds_of a).0 low && (int_le low end && (int_le end (bounds_of a).1 && int_le end (pos (2 ^ 32))))) ≡ true → Lies a low end
 lies_of a low end e =
-    let p = both (int_le (bounds_of a).0 low) (int_le low end && (int_le end (bounds_of a).1 && int_le end (pos (2 ^ 32)))) e in
-    let q = both (int_le low end) (int_le end (bounds_of a).1 && int_le end (pos (2 ^ 32))) p.1 in
-    let r = both (int_le end (bounds_of a).1) (int_le end (pos (2 ^ 32))) q.1 in
+    let p = and_parts (int_le (bounds_of a).0 low) (int_le low end && (int_le end (bounds_of a).1 && int_le end (pos (2 ^ 32)))) e in
+    let q = and_parts (int_le low end) (int_le end (bounds_of a).1 && int_le end (pos (2 ^ 32))) p.1 in
+    let r = and_parts (int_le end (bounds_of a).1) (int_le end (pos (2 ^ 32))) q.1 in
     record {
       from = int_le-true (bounds_of a).0 low p.0;
       filled = int_le-true low end q.0;
@@ -258,26 +245,22 @@ low_read a low size some e = low_by a low (low +ℤ size) some (lies_of a low (l
 
 -- ---- regions and areas
 
-bit_read : (b : Bool) → bit_of (bit_text b) ≡ Some b
-bit_read true = refl
-bit_read false = refl
-
 block_shape : (a b c : List ℕ) → codes "b." ++ a ++ codes "." ++ b ++ codes "." ++ c ≡ codes "b" ++ 46 ∷ (a ++ 46 ∷ (b ++ 46 ∷ c))
 block_shape a b c = simp append_assoc
 
-block_by_read : (site size : ℕ) (zeroed : Bool) → site < 2 ^ 32 → size < 2 ^ 32 → block_by (hex8 site) (hex8 size) (bit_text zeroed) ≡ Some (Block site size zeroed)
+block_by_read : (site size : ℕ) (zeroed : Bool) → site < 2 ^ 32 → size < 2 ^ 32 → block_by (hex8 site) (hex8 size) (bool_text zeroed) ≡ Some (Block site size zeroed)
 block_by_read site size zeroed small less =
-    ap (option_and_then (λ (a : ℕ). option_and_then (λ (b : ℕ). option_map (λ z. Block a b z) (bit_of (bit_text zeroed))) (word_of (hex8 size)))) (word_read site small)
-    ∙ ap (option_and_then (λ (b : ℕ). option_map (λ z. Block site b z) (bit_of (bit_text zeroed)))) (word_read size less)
-    ∙ ap (option_map (λ z. Block site size z)) (bit_read zeroed)
+    ap (option_and_then (λ (a : ℕ). option_and_then (λ (b : ℕ). option_map (λ z. Block a b z) (bool_of (bool_text zeroed))) (word_of (hex8 size)))) (word_read site small)
+    ∙ ap (option_and_then (λ (b : ℕ). option_map (λ z. Block site b z) (bool_of (bool_text zeroed)))) (word_read size less)
+    ∙ ap (option_map (λ z. Block site size z)) (bool_read zeroed)
 
-block_read : (site size : ℕ) (zeroed : Bool) → site < 2 ^ 32 → size < 2 ^ 32 → block_of (hex8 site ++ 46 ∷ (hex8 size ++ 46 ∷ bit_text zeroed)) ≡ Some (Block site size zeroed)
+block_read : (site size : ℕ) (zeroed : Bool) → site < 2 ^ 32 → size < 2 ^ 32 → block_of (hex8 site ++ 46 ∷ (hex8 size ++ 46 ∷ bool_text zeroed)) ≡ Some (Block site size zeroed)
 block_read site size zeroed small less =
-    let rest : List ℕ = hex8 size ++ 46 ∷ bit_text zeroed in
+    let rest : List ℕ = hex8 size ++ 46 ∷ bool_text zeroed in
     let go : List ℕ × List ℕ → Option Region = λ first. option_and_then (λ (second : List ℕ × List ℕ). block_by first.0 second.0 second.1) (cut_at 46 first.1) in
     let on : List ℕ × List ℕ → Option Region = λ second. block_by (hex8 site) second.0 second.1 in
     ap (option_and_then go) (cut-there 46 (hex8 site) rest (no_dot site))
-    ∙ ap (option_and_then on) (cut-there 46 (hex8 size) (bit_text zeroed) (no_dot size))
+    ∙ ap (option_and_then on) (cut-there 46 (hex8 size) (bool_text zeroed) (no_dot size))
     ∙ block_by_read site size zeroed small less
 
 pub region_read : (r : Region) → fits_region r ≡ true → region_of (region_text r) ≡ Some r
@@ -286,9 +269,9 @@ region_read Stack fits = refl
 region_read Fs fits = refl
 region_read Gs fits = refl
 region_read (Block site size zeroed) fits =
-    let f = both (is_word site) (is_word size) fits in
-    let rest : List ℕ = hex8 site ++ 46 ∷ (hex8 size ++ 46 ∷ bit_text zeroed) in
-    ap (λ l. region_by l (cut_at 46 l)) (block_shape (hex8 site) (hex8 size) (bit_text zeroed))
+    let f = and_parts (is_word site) (is_word size) fits in
+    let rest : List ℕ = hex8 site ++ 46 ∷ (hex8 size ++ 46 ∷ bool_text zeroed) in
+    ap (λ l. region_by l (cut_at 46 l)) (block_shape (hex8 site) (hex8 size) (bool_text zeroed))
     ∙ ap (region_by (codes "b" ++ 46 ∷ rest)) (cut-there 46 (codes "b") rest refl)
     ∙ block_read site size zeroed (word_small site f.0) (word_small size f.1)
 
@@ -297,7 +280,7 @@ unfolding region_text
 not_image Stack = refl
 not_image Fs = refl
 not_image Gs = refl
-not_image (Block site size zeroed) = ap (λ l. bytes_eq l (codes "image")) (block_shape (hex8 site) (hex8 size) (bit_text zeroed))
+not_image (Block site size zeroed) = ap (λ l. bytes_eq l (codes "image")) (block_shape (hex8 site) (hex8 size) (bool_text zeroed))
 
 pub area_read : (a : Area) → fits_area a ≡ true → area_of (area_text a) ≡ Some a
 unfolding area_of
@@ -353,7 +336,7 @@ inside_read r fits room =
 pub value_read : (v : Bounded) → fits_value v ≡ true → is_made v ≡ true → value_of (value_text v) ≡ Some v
 unfolding value_of value_text
 value_read (Number n) fits made = number_read n (word_small n fits)
-value_read (Exact r o) fits made = let f = both (fits_region r) (is_signed B32 o) fits in exact_read r o f.0 f.1
+value_read (Exact r o) fits made = let f = and_parts (fits_region r) (is_signed B32 o) fits in exact_read r o f.0 f.1
 value_read (Inside r) fits made = inside_read r fits made
 value_read Any fits made = refl
 
@@ -395,7 +378,7 @@ most_true a b h = grind (arith, nat_tests)
 k_read : (k : ℕ) → 1 ≤ k → k ≤ 1024 → k_of (decimal k) ≡ Some k
 k_read k least greatest =
     ap (option_and_then (λ n. if nat_le 1 n && nat_le n 1024 then Some n else None)) (below_read k (omega arith))
-    ∙ ap (λ t. if t then Some k else None) (both_true (nat_le 1 k) (nat_le k 1024) (most_true 1 k least) (most_true k 1024 greatest))
+    ∙ ap (λ t. if t then Some k else None) (and_from (nat_le 1 k) (nat_le k 1024) (most_true 1 k least) (most_true k 1024 greatest))
 
 register_read : (r : ℕ) → nat_lt r 8 ≡ true → register_of (decimal r) ≡ Some r
 register_read r small =
@@ -406,15 +389,11 @@ register_read r small =
 
 pub k_back : (k : ℕ) → 1 ≤ k → k ≤ 1024 → k_fields (decimal k ∷ []) ≡ Some k
 unfolding k_fields
-k_back k least greatest = read_as k_of (decimal k) [] k (λ n fs. no_more n fs) (k_read k least greatest)
-
-pub address_back : (n : ℕ) → is_word n ≡ true → address_fields (hex8 n ∷ []) ≡ Some n
-unfolding address_fields
-address_back n small = read_as word_of (hex8 n) [] n (λ at fs. no_more at fs) (word_read n (word_small n small))
+k_back k least greatest = then_given k_of (decimal k) [] k (λ n fs. no_more n fs) (k_read k least greatest)
 
 pub flags_back : (ts : List Truth) → length ts ≡ 7 → flags_fields (map truth_code ts ∷ []) ≡ Some ts
 unfolding flags_fields
-flags_back ts seven = read_as flags_of (map truth_code ts) [] ts (λ us fs. no_more us fs) (flags_read ts seven)
+flags_back ts seven = then_given flags_of (map truth_code ts) [] ts (λ us fs. no_more us fs) (flags_read ts seven)
 
 pub regs_back : (a b c d e f g h : Bounded) → (let vs : List Bounded = a ∷ b ∷ c ∷ d ∷ e ∷ f ∷ g ∷ h ∷ [] in list_all fits_value vs ≡ true)
     → (let vs : List Bounded = a ∷ b ∷ c ∷ d ∷ e ∷ f ∷ g ∷ h ∷ [] in list_all is_made vs ≡ true)
@@ -422,30 +401,30 @@ pub regs_back : (a b c d e f g h : Bounded) → (let vs : List Bounded = a ∷ b
 unfolding regs_fields
 regs_back a b c d e f g h fits made =
     let t : Bounded → List ℕ = value_text in
-    let fa = both (fits_value a) _ fits in
-    let fb = both (fits_value b) _ fa.1 in
-    let fc = both (fits_value c) _ fb.1 in
-    let fd = both (fits_value d) _ fc.1 in
-    let fe = both (fits_value e) _ fd.1 in
-    let ff = both (fits_value f) _ fe.1 in
-    let fg = both (fits_value g) _ ff.1 in
-    let fh = both (fits_value h) true fg.1 in
-    let ma = both (is_made a) _ made in
-    let mb = both (is_made b) _ ma.1 in
-    let mc = both (is_made c) _ mb.1 in
-    let md = both (is_made d) _ mc.1 in
-    let me = both (is_made e) _ md.1 in
-    let mf = both (is_made f) _ me.1 in
-    let mg = both (is_made g) _ mf.1 in
-    let mh = both (is_made h) true mg.1 in
-    read_as value_of (t a) (t b ∷ t c ∷ t d ∷ t e ∷ t f ∷ t g ∷ t h ∷ []) a _ (value_read a fa.0 ma.0)
-    ∙ read_as value_of (t b) (t c ∷ t d ∷ t e ∷ t f ∷ t g ∷ t h ∷ []) b _ (value_read b fb.0 mb.0)
-    ∙ read_as value_of (t c) (t d ∷ t e ∷ t f ∷ t g ∷ t h ∷ []) c _ (value_read c fc.0 mc.0)
-    ∙ read_as value_of (t d) (t e ∷ t f ∷ t g ∷ t h ∷ []) d _ (value_read d fd.0 md.0)
-    ∙ read_as value_of (t e) (t f ∷ t g ∷ t h ∷ []) e _ (value_read e fe.0 me.0)
-    ∙ read_as value_of (t f) (t g ∷ t h ∷ []) f _ (value_read f ff.0 mf.0)
-    ∙ read_as value_of (t g) (t h ∷ []) g _ (value_read g fg.0 mg.0)
-    ∙ read_as value_of (t h) [] h (λ x fs. no_more (a ∷ b ∷ c ∷ d ∷ e ∷ f ∷ g ∷ x ∷ []) fs) (value_read h fh.0 mh.0)
+    let fa = and_parts (fits_value a) _ fits in
+    let fb = and_parts (fits_value b) _ fa.1 in
+    let fc = and_parts (fits_value c) _ fb.1 in
+    let fd = and_parts (fits_value d) _ fc.1 in
+    let fe = and_parts (fits_value e) _ fd.1 in
+    let ff = and_parts (fits_value f) _ fe.1 in
+    let fg = and_parts (fits_value g) _ ff.1 in
+    let fh = and_parts (fits_value h) true fg.1 in
+    let ma = and_parts (is_made a) _ made in
+    let mb = and_parts (is_made b) _ ma.1 in
+    let mc = and_parts (is_made c) _ mb.1 in
+    let md = and_parts (is_made d) _ mc.1 in
+    let me = and_parts (is_made e) _ md.1 in
+    let mf = and_parts (is_made f) _ me.1 in
+    let mg = and_parts (is_made g) _ mf.1 in
+    let mh = and_parts (is_made h) true mg.1 in
+    then_given value_of (t a) (t b ∷ t c ∷ t d ∷ t e ∷ t f ∷ t g ∷ t h ∷ []) a _ (value_read a fa.0 ma.0)
+    ∙ then_given value_of (t b) (t c ∷ t d ∷ t e ∷ t f ∷ t g ∷ t h ∷ []) b _ (value_read b fb.0 mb.0)
+    ∙ then_given value_of (t c) (t d ∷ t e ∷ t f ∷ t g ∷ t h ∷ []) c _ (value_read c fc.0 mc.0)
+    ∙ then_given value_of (t d) (t e ∷ t f ∷ t g ∷ t h ∷ []) d _ (value_read d fd.0 md.0)
+    ∙ then_given value_of (t e) (t f ∷ t g ∷ t h ∷ []) e _ (value_read e fe.0 me.0)
+    ∙ then_given value_of (t f) (t g ∷ t h ∷ []) f _ (value_read f ff.0 mf.0)
+    ∙ then_given value_of (t g) (t h ∷ []) g _ (value_read g fg.0 mg.0)
+    ∙ then_given value_of (t h) [] h (λ x fs. no_more (a ∷ b ∷ c ∷ d ∷ e ∷ f ∷ g ∷ x ∷ []) fs) (value_read h fh.0 mh.0)
 
 stack_word : (o : ℤ) → lies_inside (interval_at (In Stack) o (pos 4)) ≡ true → signed_of B32 (word_in B32 o) ≡ o
 stack_word o e = low_read (In Stack) o (pos 4) (omega (arith, ints)) e
@@ -453,11 +432,11 @@ stack_word o e = low_read (In Stack) o (pos 4) (omega (arith, ints)) e
 pub note_back : (n : Note) → fits_note n ≡ true → is_well_note n ≡ true → note_fields (note_list n) ≡ Some n
 unfolding note_fields register_note word_note
 note_back (Register r c) fits well =
-    read_as register_of (decimal r) (hex8 c ∷ []) r (λ x fs. then_field word_of fs (λ y fs. no_more (Register x y) fs)) (register_read r well)
-    ∙ read_as word_of (hex8 c) [] c (λ y fs. no_more (Register r y) fs) (word_read c (word_small c fits))
+    then_given register_of (decimal r) (hex8 c ∷ []) r (λ x fs. then_field word_of fs (λ y fs. no_more (Register x y) fs)) (register_read r well)
+    ∙ then_given word_of (hex8 c) [] c (λ y fs. no_more (Register r y) fs) (word_read c (word_small c fits))
 note_back (Word o c) fits well =
-    read_as word_of (offset_text o) (hex8 c ∷ []) (word_in B32 o) (λ x fs. then_field word_of fs (λ y fs. no_more (Word (signed_of B32 x) y) fs)) (offset_read o)
-    ∙ read_as word_of (hex8 c) [] c (λ y fs. no_more (Word (signed_of B32 (word_in B32 o)) y) fs) (word_read c (word_small c fits))
+    then_given word_of (offset_text o) (hex8 c ∷ []) (word_in B32 o) (λ x fs. then_field word_of fs (λ y fs. no_more (Word (signed_of B32 x) y) fs)) (offset_read o)
+    ∙ then_given word_of (hex8 c) [] c (λ y fs. no_more (Word (signed_of B32 (word_in B32 o)) y) fs) (word_read c (word_small c fits))
     ∙ ap (λ (z : ℤ). Some (Word z c)) (stack_word o well)
 
 width_filled : (low : ℤ) (w : Width) → low <ℤ (low +ℤ pos (bytes_of w))
@@ -468,18 +447,18 @@ width_filled low B32 = omega (arith, ints)
 pub fact_back : (f : Fact Bounded) → fits_fact f ≡ true → is_made f.value ≡ true → is_sound_fact bounded f ≡ true → fact_fields (fact_list f) ≡ Some f
 unfolding fact_fields
 fact_back f fits made sound =
-    let fa = both (fits_area f.area) (fits_value f.value) fits in
-    let inside = (both (lies_inside (interval_of_fact f)) _ sound).0 in
+    let fa = and_parts (fits_area f.area) (fits_value f.value) fits in
+    let inside = (and_parts (lies_inside (interval_of_fact f)) _ sound).0 in
     let make : Area → ℤ → Width → Bounded → Fact Bounded = λ area low w v. record { area = area; low = low; w = w; value = v } in
     let n : ℕ = word_in B32 f.low in
     let a : List ℕ = area_text f.area in
     let b : List ℕ = offset_text f.low in
     let c : List ℕ = decimal (bytes_of f.w) in
     let d : List ℕ = value_text f.value in
-    read_as area_of a (b ∷ c ∷ d ∷ []) f.area (λ area fs. then_field word_of fs (λ low fs. then_field width_of fs (λ w fs. then_field value_of fs (λ v fs. no_more (make area (low_in area low) w v) fs)))) (area_read f.area fa.0)
-    ∙ read_as word_of b (c ∷ d ∷ []) n (λ low fs. then_field width_of fs (λ w fs. then_field value_of fs (λ v fs. no_more (make f.area (low_in f.area low) w v) fs))) (offset_read f.low)
-    ∙ read_as width_of c (d ∷ []) f.w (λ w fs. then_field value_of fs (λ v fs. no_more (make f.area (low_in f.area n) w v) fs)) (width_read f.w)
-    ∙ read_as value_of d [] f.value (λ v fs. no_more (make f.area (low_in f.area n) f.w v) fs) (value_read f.value fa.1 made)
+    then_given area_of a (b ∷ c ∷ d ∷ []) f.area (λ area fs. then_field word_of fs (λ low fs. then_field width_of fs (λ w fs. then_field value_of fs (λ v fs. no_more (make area (low_in area low) w v) fs)))) (area_read f.area fa.0)
+    ∙ then_given word_of b (c ∷ d ∷ []) n (λ low fs. then_field width_of fs (λ w fs. then_field value_of fs (λ v fs. no_more (make f.area (low_in f.area low) w v) fs))) (offset_read f.low)
+    ∙ then_given width_of c (d ∷ []) f.w (λ w fs. then_field value_of fs (λ v fs. no_more (make f.area (low_in f.area n) w v) fs)) (width_read f.w)
+    ∙ then_given value_of d [] f.value (λ v fs. no_more (make f.area (low_in f.area n) f.w v) fs) (value_read f.value fa.1 made)
     ∙ ap (λ (z : ℤ). Some (make f.area z f.w f.value)) (low_read f.area f.low (pos (bytes_of f.w)) (width_filled f.low f.w) inside)
 
 -- ---- sizes of dirty ranges
@@ -487,7 +466,7 @@ fact_back f fits made sound =
 -- the first of some bytes that are mapped lies where a program's memory may
 first_mapped : (image : Image) (a n : ℕ) → IsLoaded image → maps_all image.segments a (suc n) ≡ true → USER_LOW ≤ a
 first_mapped image a n loaded e =
-    let first = both (is_some (byte_at image.segments a)) _ e in
+    let first = and_parts (is_some (byte_at image.segments a)) _ e in
     (mapped_inside image.segments a first.0 loaded.map.inside).0
 
 size_of_image : (image : Image) (low size : ℤ) → IsLoaded image → pos 0 ≤ℤ low → low <ℤ (low +ℤ size) → (low +ℤ size) ≤ℤ pos (2 ^ 32) → maps_all image.segments (unsigned_abs low) (unsigned_abs size) ≡ true → size <ℤ pos (2 ^ 32)
@@ -499,14 +478,14 @@ size_of_image image (negsuc a) size loaded from some to e = absurd (omega (arith
 size_by : (image : Image) (a : Area) (low size : ℤ) → IsLoaded image → fits_area a ≡ true → low <ℤ (low +ℤ size) → Lies a low (low +ℤ size) → is_marked a ≡ true → are_image_bytes image a low size ≡ true
     → size <ℤ pos (2 ^ 32)
 size_by image ImageArea low size loaded fits some is marked bytes =
-    let p = both (int_le (pos 0) low) _ bytes in
-    let q = both (int_le (low +ℤ size) (pos (2 ^ 32))) (maps_all image.segments (unsigned_abs low) (unsigned_abs size)) p.1 in
+    let p = and_parts (int_le (pos 0) low) _ bytes in
+    let q = and_parts (int_le (low +ℤ size) (pos (2 ^ 32))) (maps_all image.segments (unsigned_abs low) (unsigned_abs size)) p.1 in
     size_of_image image low size loaded is.from some is.least q.1
 size_by image (In Stack) low size loaded fits some is marked bytes = cc
 size_by image (In Fs) low size loaded fits some is marked bytes = cc
 size_by image (In Gs) low size loaded fits some is marked bytes = cc
 size_by image (In (Block site long zeroed)) low size loaded fits some is marked bytes =
-    let f = both (is_word site) (is_word long) fits in
+    let f = and_parts (is_word site) (is_word long) fits in
     let small : long < 2 ^ 32 = word_small long f.1 in
     let from : pos 0 ≤ℤ low = is.from in
     let to : (low +ℤ size) ≤ℤ pos long = is.to in
@@ -515,8 +494,8 @@ size_by image (In (Block site long zeroed)) low size loaded fits some is marked 
 pub dirty_back : (image : Image) (r : Dirty) → IsLoaded image → fits_dirty r ≡ true → is_sound_dirty r ≡ true → is_dirty_of image r ≡ true → dirty_fields (dirty_list r) ≡ Some r
 unfolding dirty_fields
 dirty_back image r loaded fits sound bytes =
-    let p = both (int_lt r.low (r.low +ℤ r.size)) _ sound in
-    let q = both (lies_inside (interval_of_dirty r)) (is_marked r.area) p.1 in
+    let p = and_parts (int_lt r.low (r.low +ℤ r.size)) _ sound in
+    let q = and_parts (lies_inside (interval_of_dirty r)) (is_marked r.area) p.1 in
     let some : r.low <ℤ (r.low +ℤ r.size) = int_lt-true r.low (r.low +ℤ r.size) p.0 in
     let small : r.size <ℤ pos (2 ^ 32) = size_by image r.area r.low r.size loaded fits some (lies_of r.area r.low (r.low +ℤ r.size) q.0) q.1 bytes in
     let least : pos 0 ≤ℤ r.size = omega (arith, ints, some) in
@@ -526,9 +505,9 @@ dirty_back image r loaded fits sound bytes =
     let a : List ℕ = area_text r.area in
     let b : List ℕ = offset_text r.low in
     let c : List ℕ = offset_text r.size in
-    read_as area_of a (b ∷ c ∷ []) r.area (λ area fs. then_field word_of fs (λ low fs. then_field word_of fs (λ size fs. no_more (make area (low_in area low) (pos size)) fs))) (area_read r.area fits)
-    ∙ read_as word_of b (c ∷ []) n (λ low fs. then_field word_of fs (λ size fs. no_more (make r.area (low_in r.area low) (pos size)) fs)) (offset_read r.low)
-    ∙ read_as word_of c [] m (λ size fs. no_more (make r.area (low_in r.area n) (pos size)) fs) (offset_read r.size)
+    then_given area_of a (b ∷ c ∷ []) r.area (λ area fs. then_field word_of fs (λ low fs. then_field word_of fs (λ size fs. no_more (make area (low_in area low) (pos size)) fs))) (area_read r.area fits)
+    ∙ then_given word_of b (c ∷ []) n (λ low fs. then_field word_of fs (λ size fs. no_more (make r.area (low_in r.area low) (pos size)) fs)) (offset_read r.low)
+    ∙ then_given word_of c [] m (λ size fs. no_more (make r.area (low_in r.area n) (pos size)) fs) (offset_read r.size)
     ∙ ap (λ (z : ℤ). Some (make r.area z (pos m))) (low_read r.area r.low r.size some q.0)
     ∙ ap (λ (z : ℤ). Some (make r.area r.low z)) (unsigned_read r.size least small)
 
@@ -536,5 +515,5 @@ pub block_back : (c : Counted) → fits_count c ≡ true → block_fields (block
 unfolding block_fields
 block_back c fits =
     let make : Region → Bool → Counted = λ region many. record { region = region; many = many } in
-    read_as region_of (region_text c.region) (count_text c.many ∷ []) c.region (λ region fs. then_field many_of fs (λ many fs. no_more (make region many) fs)) (region_read c.region fits)
-    ∙ read_as many_of (count_text c.many) [] c.many (λ many fs. no_more (make c.region many) fs) (many_read c.many)
+    then_given region_of (region_text c.region) (count_text c.many ∷ []) c.region (λ region fs. then_field many_of fs (λ many fs. no_more (make region many) fs)) (region_read c.region fits)
+    ∙ then_given many_of (count_text c.many) [] c.many (λ many fs. no_more (make c.region many) fs) (many_read c.many)

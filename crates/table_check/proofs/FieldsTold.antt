@@ -6,12 +6,11 @@ use Rattle.std.specs.Str.{bytes_eq}
 use Rattle.std.proofs.Math.Nat.{mul-le-mul_left, pow-succ'}
 use Rattle.std.proofs.lemmas.Bool.Decides.{nat_tests}
 use Rattle.std.proofs.lemmas.Fmt.{decimal_digit}
-use Rattle.std.proofs.lemmas.Slice.Eq.{bytes_eq-Decides}
 use Rattle.text_fields.specs.Decimal.{decimal_below, decimal_number}
-use Rattle.text_fields.specs.Fields.{no_more, then_field, word_of}
+use Rattle.text_fields.specs.Fields.{no_more, then_field, word_of, bool_of, bool_text}
 use Rattle.text_fields.specs.Hex.{digit_number, hex8, number_after}
 use Rattle.text_fields.proofs.DecimalFacts.{decimal_is_text}
-use Rattle.text_fields.proofs.FieldTexts.{has_field, is_done, word_is}
+use Rattle.text_fields.proofs.FieldTexts.{has_field, is_done, word_is, bool_is}
 use Rattle.text_fields.proofs.HexFacts.{digit_is}
 use Rattle.bit_words.specs.declared.width.Width.{Width}
 use Rattle.bit_words.specs.declared.width.Width.TheVariants.{B8, B16, B32}
@@ -31,27 +30,15 @@ use Rattle.abstract_state.specs.declared.truth.Truth.TheVariants.{Yes, No, Unkno
 use Rattle.abstract_state.specs.declared.note.Note.{Note}
 use Rattle.abstract_state.specs.declared.note.Note.TheVariants.{Register, Word}
 use Rattle.abstract_state.specs.Notes.{compared_with}
-use Rattle.table_check.specs.Fields.{address_fields, area_of, bit_of, block_by, block_fields, block_of, cut_at, dirty_fields, fact_fields, flags_fields, flags_of, inside_in, inside_of, k_fields, k_of, low_in, many_of, note_fields, place_by, place_of, region_by, region_of, register_note, register_of, regs_fields, truth_of, truths_by, value_by, value_of, width_of, window_of, word_note}
-use Rattle.table_check.specs.Text.{area_text, bit_text, count_text, offset_text, region_text, truth_code, value_text}
+use Rattle.table_check.specs.Fields.{area_of, block_by, block_fields, block_of, dirty_fields, fact_fields, flags_fields, flags_of, inside_in, inside_of, k_fields, k_of, low_in, many_of, note_fields, place_by, place_of, region_by, region_of, register_note, register_of, regs_fields, truth_of, truths_by, value_by, value_of, width_of, window_of, word_note}
+use Rattle.table_check.specs.Text.{area_text, count_text, offset_text, region_text, truth_code, value_text}
 use Rattle.table_check.specs.TextLaws.{is_made}
-use Rattle.table_check.proofs.Cutting.{cut-is}
+use Rattle.std.proofs.lemmas.Bool.{and_from}
+use Rattle.text_fields.proofs.Found.{if_some, mapped, chained, same_word}
+use Rattle.text_fields.proofs.Cutting.{cut-is}
+use Rattle.text_fields.specs.Lines.{cut_at}
 
 -- ---- what is behind a test or something found
-
-pub mapped : {A B : Type 0} (f : A → B) (o : Option A) (b : B) → option_map f o ≡ Some b → (a : A) × (o ≡ Some a) × (f a ≡ b)
-mapped f None b h = cc
-mapped f (Some a) b h = (a, refl, cc)
-
-pub chained : {A B : Type 0} (f : A → Option B) (o : Option A) (b : B) → option_and_then f o ≡ Some b → (a : A) × (o ≡ Some a) × (f a ≡ Some b)
-chained f None b h = cc
-chained f (Some a) b h = (a, refl, h)
-
-pub if_some : {A : Type 0} (t : Bool) (x : Option A) (b : A) → (if t then x else None) ≡ Some b → (t ≡ true) × (x ≡ Some b)
-if_some true x b h = (refl, h)
-if_some false x b h = cc
-
-pub same_word : (word own : List ℕ) → bytes_eq word own ≡ true → word ≡ own
-same_word word own e = (bytes_eq-Decides word own).0 e
 
 -- a field that is a word, and what is left where it is not
 word_by : {A : Type 0} (f : A → List ℕ) (field own : List ℕ) (a b : A) (rest : Option A) (t : Bool) → bytes_eq field own ≡ t → own ≡ f a → (rest ≡ Some b → field ≡ f b)
@@ -128,9 +115,6 @@ size_is field n h = word_is field n h ∙ ap hex8 (sym (low_bits n (word_small f
 
 -- ---- regions and areas
 
-pub bit_is : (field : List ℕ) (b : Bool) → bit_of field ≡ Some b → field ≡ bit_text b
-bit_is field b h = word_case bit_text field (codes "1") true b _ refl (λ k. word_case bit_text field (codes "0") false b None refl (λ none. cc) k) h
-
 window_is : (field : List ℕ) (r : Region) → window_of field ≡ Some r → field ≡ region_text r
 unfolding region_text
 window_is field r h =
@@ -148,14 +132,14 @@ block_is text r h =
     let f : (first : List ℕ × List ℕ) × (cut_at 46 text ≡ Some first) × (go first ≡ Some r) = chained go (cut_at 46 text) r h in
     let on : List ℕ × List ℕ → Option Region = λ second. block_by f.0.0 second.0 second.1 in
     let s : (second : List ℕ × List ℕ) × (cut_at 46 f.0.1 ≡ Some second) × (on second ≡ Some r) = chained on (cut_at 46 f.0.1) r f.2 in
-    let sized : ℕ → Option Region = λ site. option_and_then (λ size. option_map (λ zeroed. Block site size zeroed) (bit_of s.0.1)) (word_of s.0.0) in
+    let sized : ℕ → Option Region = λ site. option_and_then (λ size. option_map (λ zeroed. Block site size zeroed) (bool_of s.0.1)) (word_of s.0.0) in
     let site : (n : ℕ) × (word_of f.0.0 ≡ Some n) × (sized n ≡ Some r) = chained sized (word_of f.0.0) r s.2 in
-    let lasting : ℕ → Option Region = λ size. option_map (λ zeroed. Block site.0 size zeroed) (bit_of s.0.1) in
+    let lasting : ℕ → Option Region = λ size. option_map (λ zeroed. Block site.0 size zeroed) (bool_of s.0.1) in
     let size : (n : ℕ) × (word_of s.0.0 ≡ Some n) × (lasting n ≡ Some r) = chained lasting (word_of s.0.0) r site.2 in
-    let bit : (z : Bool) × (bit_of s.0.1 ≡ Some z) × (Block site.0 size.0 z ≡ r) = mapped (λ z. Block site.0 size.0 z) (bit_of s.0.1) r size.2 in
-    let inner : f.0.1 ≡ hex8 size.0 ++ 46 ∷ bit_text bit.0 = cut-is 46 f.0.1 s.0 s.1 ∙ ap (λ l. l ++ 46 ∷ s.0.1) (word_is s.0.0 size.0 size.1) ∙ ap (λ l. hex8 size.0 ++ 46 ∷ l) (bit_is s.0.1 bit.0 bit.1) in
-    let whole : text ≡ hex8 site.0 ++ 46 ∷ (hex8 size.0 ++ 46 ∷ bit_text bit.0) = cut-is 46 text f.0 f.1 ∙ ap (λ l. l ++ 46 ∷ f.0.1) (word_is f.0.0 site.0 site.1) ∙ ap (λ l. hex8 site.0 ++ 46 ∷ l) inner in
-    ap (λ l. codes "b." ++ l) whole ∙ block_joined (hex8 site.0) (hex8 size.0) (bit_text bit.0) ∙ ap region_text bit.2
+    let bit : (z : Bool) × (bool_of s.0.1 ≡ Some z) × (Block site.0 size.0 z ≡ r) = mapped (λ z. Block site.0 size.0 z) (bool_of s.0.1) r size.2 in
+    let inner : f.0.1 ≡ hex8 size.0 ++ 46 ∷ bool_text bit.0 = cut-is 46 f.0.1 s.0 s.1 ∙ ap (λ l. l ++ 46 ∷ s.0.1) (word_is s.0.0 size.0 size.1) ∙ ap (λ l. hex8 size.0 ++ 46 ∷ l) (bool_is s.0.1 bit.0 bit.1) in
+    let whole : text ≡ hex8 site.0 ++ 46 ∷ (hex8 size.0 ++ 46 ∷ bool_text bit.0) = cut-is 46 text f.0 f.1 ∙ ap (λ l. l ++ 46 ∷ f.0.1) (word_is f.0.0 site.0 site.1) ∙ ap (λ l. hex8 site.0 ++ 46 ∷ l) inner in
+    ap (λ l. codes "b." ++ l) whole ∙ block_joined (hex8 site.0) (hex8 size.0) (bool_text bit.0) ∙ ap region_text bit.2
 
 region_by-is : (field : List ℕ) (r : Region) (o : Option (List ℕ × List ℕ)) → cut_at 46 field ≡ o → region_by field o ≡ Some r → field ≡ region_text r
 region_by-is field r None e h = window_is field r h
@@ -329,13 +313,6 @@ k_told fs k h =
     let is = k_is f.field f.value f.gives in
     (f.begins ∙ ap (λ gs. f.field ∷ gs) d.none ∙ ap (λ l. l ∷ []) (is.0 ∙ ap decimal d.same), ap (λ n. nat_le 1 n && nat_le n 1024) (sym d.same) ∙ is.1)
 
-pub address_told : (fs : List (List ℕ)) (at : ℕ) → address_fields fs ≡ Some at → fs ≡ hex8 at ∷ []
-unfolding address_fields
-address_told fs at h =
-    let f = has_field word_of fs (λ a fs. no_more a fs) at h in
-    let d = is_done f.value at f.others f.after in
-    f.begins ∙ ap (λ gs. f.field ∷ gs) d.none ∙ ap (λ l. l ∷ []) (word_is f.field f.value f.gives ∙ ap hex8 d.same)
-
 pub flags_told : (fs : List (List ℕ)) (ts : List Truth) → flags_fields fs ≡ Some ts → fs ≡ map truth_code ts ∷ []
 unfolding flags_fields
 flags_told fs ts h =
@@ -355,10 +332,6 @@ has_value : {B : Type 0} (fs : List (List ℕ)) (go : Bounded → List (List ℕ
 has_value fs go b h =
     let f = has_field value_of fs go b h in
     record { value = f.value; others = f.others; begins = f.begins ∙ ap (λ l. l ∷ f.others) (value_is f.field f.value f.gives); made = value_made f.field f.value f.gives; after = f.after }
-
-both_true : (s t : Bool) → s ≡ true → t ≡ true → (s && t) ≡ true
-both_true true t e f = f
-both_true false t e f = e
 
 pub regs_told : (fs : List (List ℕ)) (vs : List Bounded) → regs_fields fs ≡ Some vs → (fs ≡ map value_text vs) × (list_all is_made vs ≡ true)
 unfolding regs_fields
@@ -383,8 +356,8 @@ regs_told fs vs h =
     ∙ ap (map value_text) last.same
     in
     let all : list_all is_made made ≡ true =
-    both_true (is_made a.value) _ a.made (both_true (is_made b.value) _ b.made (both_true (is_made c.value) _ c.made (both_true (is_made d.value) _ d.made
-    (both_true (is_made e.value) _ e.made (both_true (is_made f.value) _ f.made (both_true (is_made g.value) _ g.made (both_true (is_made i.value) true i.made refl)))))))
+    and_from (is_made a.value) _ a.made (and_from (is_made b.value) _ b.made (and_from (is_made c.value) _ c.made (and_from (is_made d.value) _ d.made
+    (and_from (is_made e.value) _ e.made (and_from (is_made f.value) _ f.made (and_from (is_made g.value) _ g.made (and_from (is_made i.value) true i.made refl)))))))
     in
     (text, ap (list_all is_made) (sym last.same) ∙ all)
 

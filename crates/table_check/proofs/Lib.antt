@@ -1,4 +1,3 @@
-pub mod Cutting
 pub mod FieldsTold
 pub mod FieldsRead
 pub mod Told

@@ -7,17 +7,13 @@ use Rattle.std.specs.declared.cmp.Ordering.{Ordering}
 use Rattle.std.specs.declared.cmp.Ordering.TheVariants.{Less, Equal, Greater}
 use Rattle.std.proofs.lemmas.Bool.Decides.{nat_tests}
 use Rattle.std.proofs.lemmas.Int.{ints}
-use Rattle.std.proofs.lemmas.List.{length-append}
 use Rattle.std.proofs.lemmas.List.Elements.{All-append, All-head, All-tail}
 use Rattle.std.proofs.lemmas.List.Sums.{AllPass-from_list_all}
-use Rattle.std.proofs.lemmas.Option.{slice_get-get_or}
-use Rattle.std.proofs.Math.Seq.{get_or-append_seam}
 use Rattle.memory_map.specs.Image.{Image, IsLoaded}
 use Rattle.text_fields.specs.Fields.{no_more}
 use Rattle.text_fields.specs.Hex.{hex8}
 use Rattle.text_fields.specs.Line.{newline}
-use Rattle.text_fields.specs.Lines.{CONTENT, COUNT, FIELD, ORDER, fields}
-use Rattle.text_fields.proofs.DecimalFacts.{decimal_read}
+use Rattle.text_fields.specs.Lines.{CONTENT, COUNT, FIELD, ORDER, fields, demand, or_fault, follows_last, last_of}
 use Rattle.text_fields.proofs.Splitting.{ArePlain, IsPlain, Reaches, fields_spaced, plain_line, reaches_both, reaches_end, reaches_line, reaches_none, spaced, spaced_line}
 use Rattle.text_fields.proofs.Splitting as plain
 use Rattle.bounded_values.specs.declared.value.Bounded.{Bounded}
@@ -42,23 +38,18 @@ use Rattle.abstract_state.proofs.Building.{plain-built}
 use Rattle.table_check.specs.declared.stage.Stage.{Stage}
 use Rattle.table_check.specs.declared.stage.Stage.TheVariants as stages
 use Rattle.table_check.specs.Fields.{dirty_fields, fact_fields, regs_fields}
-use Rattle.table_check.specs.Reading.{Reading, after_state, block_step, closed, closed_by, count_fields, count_of, demand, dirty_step, end_step, fact_step, flags_step, follows_last, is_dirty_above, is_fact_above, is_over, k_step, mark_or_next_step, mark_step, next_step, no_state, note_step, nothing, or_fault, part_of, regs_step, row_step, state_step, table_grammar, table_read, table_step, told}
+use Rattle.table_check.specs.Reading.{Reading, after_state, block_step, closed, closed_by, count_fields, dirty_step, end_step, fact_step, flags_step, is_dirty_above, is_fact_above, is_over, k_step, mark_or_next_step, mark_step, next_step, no_state, note_step, nothing, part_of, regs_step, row_step, state_step, table_grammar, table_read, table_step, told}
 use Rattle.table_check.specs.Text.{area_text, block_line, count_text, dirty_line, end_line, fact_line, flags_line, header_text, k_line, note_line, offset_text, open_line, region_text, regs_line, row_line, row_text, state_text, table_text, truth_code, value_text}
 use Rattle.table_check.specs.TextLaws.{FitsRow, FitsState, IsStateOf, TablesAreReadBack, fits_count, fits_dirty, fits_fact, fits_note, is_above, is_made, is_word}
 use Rattle.table_check.proofs.FieldsTold.{block_list, dirty_list, fact_list, note_list}
-use Rattle.table_check.proofs.FieldsRead.{address_back, block_back, both, both_true, dirty_back, fact_back, flags_back, is_plain, k_back, note_back, plain_area, plain_count, plain_decimal, plain_region, plain_truths, plain_value_text, plain_width, plain_word, read_as, regs_back}
+use Rattle.table_check.proofs.FieldsRead.{block_back, dirty_back, fact_back, flags_back, is_plain, k_back, note_back, plain_area, plain_count, plain_decimal, plain_region, plain_truths, plain_value_text, plain_width, plain_word, regs_back}
 use Rattle.table_check.proofs.Told.{block_text, dirty_text, end_text, fact_text, flags_text, k_text, note_line-none, note_text, open_text, regs_text, row_head}
+use Rattle.std.proofs.lemmas.Bool.{and_parts, and_from}
+use Rattle.text_fields.proofs.LastOnes.{last_of_more}
+use Rattle.text_fields.proofs.FieldTexts.{then_given, only_word_read, number_written}
+use Rattle.text_fields.specs.Decimal.{decimal_is}
 
 -- ---- lists that go on from an element
-
-abbrev last_of : {X : Type 0} → List X → Option X
-last_of xs = slice_get xs (length xs - 1)
-
-last_of_more : {X : Type 0} (xs : List X) (x : X) → last_of (xs ++ x ∷ []) ≡ Some x
-last_of_more xs x =
-    let long : length (xs ++ x ∷ []) ≡ length xs + 1 = length-append xs (x ∷ []) in
-    let at : length (xs ++ x ∷ []) - 1 ≡ length xs = omega arith in
-    ap (slice_get (xs ++ x ∷ [])) at ∙ slice_get-get_or (xs ++ x ∷ []) (length xs) x (omega arith) ∙ ap Some (get_or-append_seam xs x [] x)
 
 abbrev goes_on : {X : Type 0} → (X → X → Bool) → Option X → List X → Bool
 goes_on before o [] = true
@@ -67,8 +58,8 @@ goes_on before o (x ∷ xs) = option_map_or (λ l. before l x) o true && goes_on
 goes_from : {X : Type 0} (before : X → X → Bool) (x : X) (xs : List X) → ascend before (x ∷ xs) ≡ true → goes_on before (Some x) xs ≡ true
 goes_from before x [] e = refl
 goes_from before x (y ∷ ys) e =
-    let parts : (before x y ≡ true) × (ascend before (y ∷ ys) ≡ true) = both (before x y) (ascend before (y ∷ ys)) e in
-    both_true (before x y) (goes_on before (Some y) ys) parts.0 (goes_from before y ys parts.1)
+    let parts : (before x y ≡ true) × (ascend before (y ∷ ys) ≡ true) = and_parts (before x y) (ascend before (y ∷ ys)) e in
+    and_from (before x y) (goes_on before (Some y) ys) parts.0 (goes_from before y ys parts.1)
 
 goes_from_none : {X : Type 0} (before : X → X → Bool) (xs : List X) → ascend before xs ≡ true → goes_on before None xs ≡ true
 goes_from_none before [] e = refl
@@ -93,7 +84,7 @@ by_area-more Greater s t h e = e
 dirty_above : (r s : Dirty) → is_sound_dirty r ≡ true → dirty_before r s ≡ true → is_dirty_above r s ≡ true
 unfolding is_left
 dirty_above r s sound e =
-    let some = int_lt-true r.low (r.low +ℤ r.size) (both (int_lt r.low (r.low +ℤ r.size)) (lies_inside (interval_of_dirty r) && is_marked r.area) sound).0 in
+    let some = int_lt-true r.low (r.low +ℤ r.size) (and_parts (int_lt r.low (r.low +ℤ r.size)) (lies_inside (interval_of_dirty r) && is_marked r.area) sound).0 in
     let more : int_lt (r.low +ℤ r.size) s.low ≡ true → int_lt r.low s.low ≡ true = λ h. (let k = int_lt-true (r.low +ℤ r.size) s.low h in int_lt-from r.low s.low (omega (arith, ints, some, k))) in
     spot_before-is (spot_at r.area r.low) (spot_at s.area s.low) ∙ by_area-more (area_cmp r.area s.area) (int_lt (r.low +ℤ r.size) s.low) (int_lt r.low s.low) more e
 
@@ -101,16 +92,16 @@ facts_above : (fs : List (Fact Bounded)) → ascend fact_before fs ≡ true → 
 facts_above [] e = refl
 facts_above (f ∷ []) e = refl
 facts_above (f ∷ g ∷ fs) e =
-    let p : (fact_before f g ≡ true) × (ascend fact_before (g ∷ fs) ≡ true) = both (fact_before f g) (ascend fact_before (g ∷ fs)) e in
-    both_true (is_fact_above f g) (ascend is_fact_above (g ∷ fs)) (fact_above f g p.0) (facts_above (g ∷ fs) p.1)
+    let p : (fact_before f g ≡ true) × (ascend fact_before (g ∷ fs) ≡ true) = and_parts (fact_before f g) (ascend fact_before (g ∷ fs)) e in
+    and_from (is_fact_above f g) (ascend is_fact_above (g ∷ fs)) (fact_above f g p.0) (facts_above (g ∷ fs) p.1)
 
 dirties_above : (rs : List Dirty) → list_all is_sound_dirty rs ≡ true → ascend dirty_before rs ≡ true → ascend is_dirty_above rs ≡ true
 dirties_above [] sound e = refl
 dirties_above (r ∷ []) sound e = refl
 dirties_above (r ∷ s ∷ rs) sound e =
-    let p : (dirty_before r s ≡ true) × (ascend dirty_before (s ∷ rs) ≡ true) = both (dirty_before r s) (ascend dirty_before (s ∷ rs)) e in
-    let q : (is_sound_dirty r ≡ true) × (list_all is_sound_dirty (s ∷ rs) ≡ true) = both (is_sound_dirty r) (list_all is_sound_dirty (s ∷ rs)) sound in
-    both_true (is_dirty_above r s) (ascend is_dirty_above (s ∷ rs)) (dirty_above r s q.0 p.0) (dirties_above (s ∷ rs) q.1 p.1)
+    let p : (dirty_before r s ≡ true) × (ascend dirty_before (s ∷ rs) ≡ true) = and_parts (dirty_before r s) (ascend dirty_before (s ∷ rs)) e in
+    let q : (is_sound_dirty r ≡ true) × (list_all is_sound_dirty (s ∷ rs) ≡ true) = and_parts (is_sound_dirty r) (list_all is_sound_dirty (s ∷ rs)) sound in
+    and_from (is_dirty_above r s) (ascend is_dirty_above (s ∷ rs)) (dirty_above r s q.0 p.0) (dirties_above (s ∷ rs) q.1 p.1)
 
 -- ---- what a state of the image meets
 
@@ -148,20 +139,20 @@ meets image p e =
     let R = list_all (is_dirty_of image) p.dirty in
     let V = list_all (may_hold bounded p.blocks B32) p.regs in
     let L = list_all (λ (c : Counted). is_small c.region) p.blocks in
-    let a = both ((BO && BB) && ((O && (S && C)) && (DO && (DS && DC)))) (F && (R && (V && L))) e in
-    let b = both F (R && (V && L)) a.1 in
-    let c = both R (V && L) b.1 in
-    let d = both (BO && BB) ((O && (S && C)) && (DO && (DS && DC))) a.0 in
-    let g = both (O && (S && C)) (DO && (DS && DC)) d.1 in
-    let f = both O (S && C) g.0 in
-    let i = both DO (DS && DC) g.1 in
-    let j = both BO BB d.0 in
+    let a = and_parts ((BO && BB) && ((O && (S && C)) && (DO && (DS && DC)))) (F && (R && (V && L))) e in
+    let b = and_parts F (R && (V && L)) a.1 in
+    let c = and_parts R (V && L) b.1 in
+    let d = and_parts (BO && BB) ((O && (S && C)) && (DO && (DS && DC))) a.0 in
+    let g = and_parts (O && (S && C)) (DO && (DS && DC)) d.1 in
+    let f = and_parts O (S && C) g.0 in
+    let i = and_parts DO (DS && DC) g.1 in
+    let j = and_parts BO BB d.0 in
     record {
       facts_order = f.0;
-      facts_sound = (both S C f.1).0;
+      facts_sound = (and_parts S C f.1).0;
       facts_image = b.0;
       dirty_order = i.0;
-      dirty_sound = (both DS DC i.1).0;
+      dirty_sound = (and_parts DS DC i.1).0;
       dirty_image = c.0;
       blocks_order = j.0;
       blocks_are = j.1;
@@ -178,7 +169,7 @@ plain_is field e k d below = less 32 (get_or field k d) (AllPass-from_list_all (
 are_plain : (fs : List (List ℕ)) → list_all is_plain fs ≡ true → ArePlain fs
 are_plain [] e = plain.none
 are_plain (f ∷ fs) e =
-    let p : (is_plain f ≡ true) × (list_all is_plain fs ≡ true) = both (is_plain f) (list_all is_plain fs) e in
+    let p : (is_plain f ≡ true) × (list_all is_plain fs ≡ true) = and_parts (is_plain f) (list_all is_plain fs) e in
     plain.one f fs (plain_is f p.0) (are_plain fs p.1)
 
 parted : (word : List ℕ) (fs : List (List ℕ)) → is_plain word ≡ true → list_all is_plain fs ≡ true → fields (word ++ spaced fs) ≡ word ∷ fs
@@ -206,13 +197,13 @@ k_reached image k least greatest =
     let r : Reading = reading image stages.Header 0 [] [] 0 no_state in
     let fs : List (List ℕ) = decimal k ∷ [] in
     let own : is_plain (decimal k) ≡ true = plain_decimal k (omega arith) in
-    let others : list_all is_plain fs ≡ true = both_true (is_plain (decimal k)) true own refl in
+    let others : list_all is_plain fs ≡ true = and_from (is_plain (decimal k)) true own refl in
     taken_line r (reading image stages.Marks k [] [] 0 no_state) (codes "k") fs (k_line k) (k_text k) refl others refl
     (ap (k_step r) (parted (codes "k") fs refl others)
     ∙ ap (λ o. or_fault FIELD o (λ n. Ok (reading image stages.Marks n [] [] 0 no_state))) (k_back k least greatest))
 
 one_plain : (f : List ℕ) → is_plain f ≡ true → list_all is_plain (f ∷ []) ≡ true
-one_plain f e = both_true (is_plain f) true e refl
+one_plain f e = and_from (is_plain f) true e refl
 
 mark_reached : (image : Image) (k : ℕ) (marked : List ℕ) (at : ℕ) → is_word at ≡ true → follows_last nat_lt marked at ≡ true
     → Reaches table_grammar (reading image stages.Marks k marked [] 0 no_state) (open_line at) (reading image stages.Marks k (marked ++ at ∷ []) [] 0 no_state)
@@ -224,7 +215,7 @@ mark_reached image k marked at small above =
     let others : list_all is_plain fs ≡ true = one_plain (hex8 at) (plain_word at) in
     taken_line r u (codes "open") fs (open_line at) (open_text at) refl others refl
     (ap (mark_or_next_step r) (parted (codes "open") fs refl others)
-    ∙ ap (λ o. or_fault FIELD o (mark_step r)) (address_back at small)
+    ∙ ap (λ o. or_fault FIELD o (mark_step r)) (only_word_read at (word_small at small))
     ∙ ap (λ t. demand t ORDER (Ok u)) above)
 
 marks_reached : (image : Image) (k : ℕ) (done todo : List ℕ) → list_all is_word todo ≡ true → goes_on is_above (last_of done) todo ≡ true
@@ -233,8 +224,8 @@ marks_reached image k done [] fits order =
     subst (λ (xs : List ℕ). Reaches table_grammar (reading image stages.Marks k done [] 0 no_state) [] (reading image stages.Marks k xs [] 0 no_state)) (sym (append-nil done))
     (reaches_none table_grammar (reading image stages.Marks k done [] 0 no_state))
 marks_reached image k done (at ∷ todo) fits order =
-    let f : (is_word at ≡ true) × (list_all is_word todo ≡ true) = both (is_word at) (list_all is_word todo) fits in
-    let o : (follows_last nat_lt done at ≡ true) × (goes_on is_above (Some at) todo ≡ true) = both (follows_last nat_lt done at) (goes_on is_above (Some at) todo) order in
+    let f : (is_word at ≡ true) × (list_all is_word todo ≡ true) = and_parts (is_word at) (list_all is_word todo) fits in
+    let o : (follows_last nat_lt done at ≡ true) × (goes_on is_above (Some at) todo ≡ true) = and_parts (follows_last nat_lt done at) (goes_on is_above (Some at) todo) order in
     subst (λ (xs : List ℕ). Reaches table_grammar (reading image stages.Marks k done [] 0 no_state) (open_line at ++ flat_map open_line todo) (reading image stages.Marks k xs [] 0 no_state)) (one_more done at todo)
     (reaches_both table_grammar _ _ _ (open_line at) (flat_map open_line todo) (mark_reached image k done at f.0 o.0) (marks_reached image k (done ++ at ∷ []) todo f.1 (goes_behind is_above done at todo o.1)))
 
@@ -284,7 +275,7 @@ module _ (image : Image) (k : ℕ) (marked : List ℕ) (rows : List (ℕ × Know
 
   plain_values : (vs : List Bounded) → list_all is_plain (map value_text vs) ≡ true
   plain_values [] = refl
-  plain_values (v ∷ vs) = both_true (is_plain (value_text v)) (list_all is_plain (map value_text vs)) (plain_value_text v) (plain_values vs)
+  plain_values (v ∷ vs) = and_from (is_plain (value_text v)) (list_all is_plain (map value_text vs)) (plain_value_text v) (plain_values vs)
 
   regs_reached : (vs : List Bounded) → regs_fields (map value_text vs) ≡ Some vs → Reaches table_grammar (part stages.Row no_state) (regs_line vs) (part stages.Regs (record no_state { regs = vs }))
   unfolding table_step
@@ -314,11 +305,11 @@ module _ (image : Image) (k : ℕ) (marked : List ℕ) (rows : List (ℕ × Know
     reached : Reaches table_grammar s text (part later p)
 
   plain_note : (n : Note) → is_well_note n ≡ true → list_all is_plain (note_list n) ≡ true
-  plain_note (Register r c) well = both_true (is_plain (decimal r)) (is_plain (hex8 c) && true) (plain_decimal r (small r well)) (one_plain (hex8 c) (plain_word c))
+  plain_note (Register r c) well = and_from (is_plain (decimal r)) (is_plain (hex8 c) && true) (plain_decimal r (small r well)) (one_plain (hex8 c) (plain_word c))
     where
       small : (r : ℕ) → nat_lt r 8 ≡ true → r < 2 ^ 64
       small r e = let less : r < 8 = grind (arith, nat_tests) in omega (arith, less)
-  plain_note (Word o c) well = both_true (is_plain (offset_text o)) (is_plain (hex8 c) && true) (plain_word _) (one_plain (hex8 c) (plain_word c))
+  plain_note (Word o c) well = and_from (is_plain (offset_text o)) (is_plain (hex8 c) && true) (plain_word _) (one_plain (hex8 c) (plain_word c))
 
   note_reached : (vs : List Bounded) (ts : List Truth) (note : Option Note) → option_map_or fits_note note true ≡ true → is_note note ≡ true
       → ReadTo (part stages.Flags (record no_state { regs = vs; flags = ts })) (note_line note) 2 (record no_state { regs = vs; flags = ts; note = note })
@@ -345,8 +336,8 @@ module _ (image : Image) (k : ℕ) (marked : List ℕ) (rows : List (ℕ × Know
 
   plain_fact : (f : Fact Bounded) → list_all is_plain (fact_list f) ≡ true
   plain_fact f =
-      both_true (is_plain (area_text f.area)) _ (plain_area f.area) (both_true (is_plain (offset_text f.low)) _ (plain_word _)
-      (both_true (is_plain (decimal (bytes_of f.w))) _ (plain_width f.w) (one_plain (value_text f.value) (plain_value_text f.value))))
+      and_from (is_plain (area_text f.area)) _ (plain_area f.area) (and_from (is_plain (offset_text f.low)) _ (plain_word _)
+      (and_from (is_plain (decimal (bytes_of f.w))) _ (plain_width f.w) (one_plain (value_text f.value) (plain_value_text f.value))))
 
   fact_reached : (stage : Stage) (s : StateData Bounded) (f : Fact Bounded) → is_part stage ≡ true → nat_le (part_of stage) 2 ≡ true → fits_fact f ≡ true → is_made f.value ≡ true
       → follows_last is_fact_above s.facts f ≡ true → is_sound_fact bounded f ≡ true → is_fact_of image f ≡ true → follows_last fact_before s.facts f ≡ true
@@ -359,7 +350,7 @@ module _ (image : Image) (k : ℕ) (marked : List ℕ) (rows : List (ℕ × Know
       let others : list_all is_plain fs ≡ true = plain_fact f in
       let go : Result Reading ℕ = or_fault FIELD (fact_fields fs) (fact_step r) in
       let content : Bool = is_sound_fact bounded f && (is_fact_of image f && follows_last fact_before s.facts f) in
-      let holds : content ≡ true = both_true (is_sound_fact bounded f) (is_fact_of image f && follows_last fact_before s.facts f) sound (both_true (is_fact_of image f) (follows_last fact_before s.facts f) bytes clear) in
+      let holds : content ≡ true = and_from (is_sound_fact bounded f) (is_fact_of image f && follows_last fact_before s.facts f) sound (and_from (is_fact_of image f) (follows_last fact_before s.facts f) bytes clear) in
       taken_line r u (codes "fact") fs (fact_line f) (fact_text f) refl others (not_over stage on)
       (as_state stage s (codes "fact" ++ spaced fs) (codes "fact" ∷ fs) on (parted (codes "fact") fs refl others)
       ∙ ap (λ t. if t then go else after_state (closed r) (codes "fact") fs) early
@@ -379,12 +370,12 @@ module _ (image : Image) (k : ℕ) (marked : List ℕ) (rows : List (ℕ × Know
   }
   facts_reached stage s (f ∷ todo) on early fits made sound bytes above clear =
       let is_value : Fact Bounded → Bool = λ x. is_made x.value in
-      let a : (fits_fact f ≡ true) × (list_all fits_fact todo ≡ true) = both (fits_fact f) (list_all fits_fact todo) fits in
-      let b : (is_made f.value ≡ true) × (list_all is_value todo ≡ true) = both (is_made f.value) (list_all is_value todo) made in
-      let c : (is_sound_fact bounded f ≡ true) × (list_all (is_sound_fact bounded) todo ≡ true) = both (is_sound_fact bounded f) (list_all (is_sound_fact bounded) todo) sound in
-      let d : (is_fact_of image f ≡ true) × (list_all (is_fact_of image) todo ≡ true) = both (is_fact_of image f) (list_all (is_fact_of image) todo) bytes in
-      let e : (follows_last is_fact_above s.facts f ≡ true) × (goes_on is_fact_above (Some f) todo ≡ true) = both (follows_last is_fact_above s.facts f) (goes_on is_fact_above (Some f) todo) above in
-      let g : (follows_last fact_before s.facts f ≡ true) × (goes_on fact_before (Some f) todo ≡ true) = both (follows_last fact_before s.facts f) (goes_on fact_before (Some f) todo) clear in
+      let a : (fits_fact f ≡ true) × (list_all fits_fact todo ≡ true) = and_parts (fits_fact f) (list_all fits_fact todo) fits in
+      let b : (is_made f.value ≡ true) × (list_all is_value todo ≡ true) = and_parts (is_made f.value) (list_all is_value todo) made in
+      let c : (is_sound_fact bounded f ≡ true) × (list_all (is_sound_fact bounded) todo ≡ true) = and_parts (is_sound_fact bounded f) (list_all (is_sound_fact bounded) todo) sound in
+      let d : (is_fact_of image f ≡ true) × (list_all (is_fact_of image) todo ≡ true) = and_parts (is_fact_of image f) (list_all (is_fact_of image) todo) bytes in
+      let e : (follows_last is_fact_above s.facts f ≡ true) × (goes_on is_fact_above (Some f) todo ≡ true) = and_parts (follows_last is_fact_above s.facts f) (goes_on is_fact_above (Some f) todo) above in
+      let g : (follows_last fact_before s.facts f ≡ true) × (goes_on fact_before (Some f) todo ≡ true) = and_parts (follows_last fact_before s.facts f) (goes_on fact_before (Some f) todo) clear in
       let t : StateData Bounded = record s { facts = s.facts ++ f ∷ [] } in
       let rest : ReadTo (part stages.Facts t) (flat_map fact_line todo) 2 (record t { facts = t.facts ++ todo }) =
       facts_reached stages.Facts t todo refl refl a.1 b.1 c.1 d.1 (goes_behind is_fact_above s.facts f todo e.1) (goes_behind fact_before s.facts f todo g.1)
@@ -399,7 +390,7 @@ module _ (image : Image) (k : ℕ) (marked : List ℕ) (rows : List (ℕ × Know
       }
 
   plain_dirty : (r : Dirty) → list_all is_plain (dirty_list r) ≡ true
-  plain_dirty r = both_true (is_plain (area_text r.area)) _ (plain_area r.area) (both_true (is_plain (offset_text r.low)) _ (plain_word _) (one_plain (offset_text r.size) (plain_word _)))
+  plain_dirty r = and_from (is_plain (area_text r.area)) _ (plain_area r.area) (and_from (is_plain (offset_text r.low)) _ (plain_word _) (one_plain (offset_text r.size) (plain_word _)))
 
   dirty_reached : (stage : Stage) (s : StateData Bounded) (d : Dirty) → IsLoaded image → is_part stage ≡ true → nat_le (part_of stage) 3 ≡ true → fits_dirty d ≡ true
       → follows_last is_dirty_above s.dirty d ≡ true → is_sound_dirty d ≡ true → is_dirty_of image d ≡ true → follows_last dirty_before s.dirty d ≡ true
@@ -412,7 +403,7 @@ module _ (image : Image) (k : ℕ) (marked : List ℕ) (rows : List (ℕ × Know
       let others : list_all is_plain fs ≡ true = plain_dirty d in
       let go : Result Reading ℕ = or_fault FIELD (dirty_fields fs) (dirty_step r) in
       let content : Bool = is_sound_dirty d && (is_dirty_of image d && follows_last dirty_before s.dirty d) in
-      let holds : content ≡ true = both_true (is_sound_dirty d) (is_dirty_of image d && follows_last dirty_before s.dirty d) sound (both_true (is_dirty_of image d) (follows_last dirty_before s.dirty d) bytes clear) in
+      let holds : content ≡ true = and_from (is_sound_dirty d) (is_dirty_of image d && follows_last dirty_before s.dirty d) sound (and_from (is_dirty_of image d) (follows_last dirty_before s.dirty d) bytes clear) in
       taken_line r u (codes "dirty") fs (dirty_line d) (dirty_text d) refl others (not_over stage on)
       (as_state stage s (codes "dirty" ++ spaced fs) (codes "dirty" ∷ fs) on (parted (codes "dirty") fs refl others)
       ∙ ap (λ t. if t then go else after_state (closed r) (codes "dirty") fs) early
@@ -431,11 +422,11 @@ module _ (image : Image) (k : ℕ) (marked : List ℕ) (rows : List (ℕ × Know
     reached = subst (λ (xs : List Dirty). Reaches table_grammar (part stage s) [] (part stage (record s { dirty = xs }))) (sym (append-nil s.dirty)) (reaches_none table_grammar (part stage s));
   }
   dirties_reached stage s (d ∷ todo) loaded on early fits sound bytes above clear =
-      let a : (fits_dirty d ≡ true) × (list_all fits_dirty todo ≡ true) = both (fits_dirty d) (list_all fits_dirty todo) fits in
-      let b : (is_sound_dirty d ≡ true) × (list_all is_sound_dirty todo ≡ true) = both (is_sound_dirty d) (list_all is_sound_dirty todo) sound in
-      let c : (is_dirty_of image d ≡ true) × (list_all (is_dirty_of image) todo ≡ true) = both (is_dirty_of image d) (list_all (is_dirty_of image) todo) bytes in
-      let e : (follows_last is_dirty_above s.dirty d ≡ true) × (goes_on is_dirty_above (Some d) todo ≡ true) = both (follows_last is_dirty_above s.dirty d) (goes_on is_dirty_above (Some d) todo) above in
-      let g : (follows_last dirty_before s.dirty d ≡ true) × (goes_on dirty_before (Some d) todo ≡ true) = both (follows_last dirty_before s.dirty d) (goes_on dirty_before (Some d) todo) clear in
+      let a : (fits_dirty d ≡ true) × (list_all fits_dirty todo ≡ true) = and_parts (fits_dirty d) (list_all fits_dirty todo) fits in
+      let b : (is_sound_dirty d ≡ true) × (list_all is_sound_dirty todo ≡ true) = and_parts (is_sound_dirty d) (list_all is_sound_dirty todo) sound in
+      let c : (is_dirty_of image d ≡ true) × (list_all (is_dirty_of image) todo ≡ true) = and_parts (is_dirty_of image d) (list_all (is_dirty_of image) todo) bytes in
+      let e : (follows_last is_dirty_above s.dirty d ≡ true) × (goes_on is_dirty_above (Some d) todo ≡ true) = and_parts (follows_last is_dirty_above s.dirty d) (goes_on is_dirty_above (Some d) todo) above in
+      let g : (follows_last dirty_before s.dirty d ≡ true) × (goes_on dirty_before (Some d) todo ≡ true) = and_parts (follows_last dirty_before s.dirty d) (goes_on dirty_before (Some d) todo) clear in
       let t : StateData Bounded = record s { dirty = s.dirty ++ d ∷ [] } in
       let rest : ReadTo (part stages.Dirty t) (flat_map dirty_line todo) 3 (record t { dirty = t.dirty ++ todo }) =
       dirties_reached stages.Dirty t todo loaded refl refl a.1 b.1 c.1 (goes_behind is_dirty_above s.dirty d todo e.1) (goes_behind dirty_before s.dirty d todo g.1)
@@ -450,7 +441,7 @@ module _ (image : Image) (k : ℕ) (marked : List ℕ) (rows : List (ℕ × Know
       }
 
   plain_block : (c : Counted) → list_all is_plain (block_list c) ≡ true
-  plain_block c = both_true (is_plain (region_text c.region)) _ (plain_region c.region) (one_plain (count_text c.many) (plain_count c.many))
+  plain_block c = and_from (is_plain (region_text c.region)) _ (plain_region c.region) (one_plain (count_text c.many) (plain_count c.many))
 
   block_reached : (stage : Stage) (s : StateData Bounded) (c : Counted) → is_part stage ≡ true → fits_count c ≡ true → follows_last count_before s.blocks c ≡ true → is_block c ≡ true
       → Reaches table_grammar (part stage s) (block_line c) (part stages.Blocks (record s { blocks = s.blocks ++ c ∷ [] }))
@@ -475,9 +466,9 @@ module _ (image : Image) (k : ℕ) (marked : List ℕ) (rows : List (ℕ × Know
     reached = subst (λ (xs : List Counted). Reaches table_grammar (part stage s) [] (part stage (record s { blocks = xs }))) (sym (append-nil s.blocks)) (reaches_none table_grammar (part stage s));
   }
   blocks_reached stage s (c ∷ todo) on early fits are above =
-      let a : (fits_count c ≡ true) × (list_all fits_count todo ≡ true) = both (fits_count c) (list_all fits_count todo) fits in
-      let b : (is_block c ≡ true) × (list_all is_block todo ≡ true) = both (is_block c) (list_all is_block todo) are in
-      let e : (follows_last count_before s.blocks c ≡ true) × (goes_on count_before (Some c) todo ≡ true) = both (follows_last count_before s.blocks c) (goes_on count_before (Some c) todo) above in
+      let a : (fits_count c ≡ true) × (list_all fits_count todo ≡ true) = and_parts (fits_count c) (list_all fits_count todo) fits in
+      let b : (is_block c ≡ true) × (list_all is_block todo ≡ true) = and_parts (is_block c) (list_all is_block todo) are in
+      let e : (follows_last count_before s.blocks c ≡ true) × (goes_on count_before (Some c) todo ≡ true) = and_parts (follows_last count_before s.blocks c) (goes_on count_before (Some c) todo) above in
       let t : StateData Bounded = record s { blocks = s.blocks ++ c ∷ [] } in
       let rest : ReadTo (part stages.Blocks t) (flat_map block_line todo) 4 (record t { blocks = t.blocks ++ todo }) =
       blocks_reached stages.Blocks t todo refl refl a.1 b.1 (goes_behind count_before s.blocks c todo e.1)
@@ -504,9 +495,9 @@ module _ (image : Image) (k : ℕ) (marked : List ℕ) (rows : List (ℕ × Know
   unfolding state_text
   state_reached s loaded fits is back =
       let p : StateData Bounded = plain_of s in
-      let tests : (is_state bounded image p ≡ true) × (is_note s.note ≡ true) = both (is_state bounded image p) (is_note s.note) (tested image s back) in
+      let tests : (is_state bounded image p ≡ true) × (is_note s.note ≡ true) = and_parts (is_state bounded image p) (is_note s.note) (tested image s back) in
       let m : Meets image p = meets image p tests.0 in
-      let made : (list_all is_made p.regs ≡ true) × (list_all (λ (f : Fact Bounded). is_made f.value) p.facts ≡ true) = both (list_all is_made p.regs) (list_all (λ (f : Fact Bounded). is_made f.value) p.facts) is.made in
+      let made : (list_all is_made p.regs ≡ true) × (list_all (λ (f : Fact Bounded). is_made f.value) p.facts ≡ true) = and_parts (list_all is_made p.regs) (list_all (λ (f : Fact Bounded). is_made f.value) p.facts) is.made in
       let g = s.regs in
       let a = regs_reached p.regs (regs_back g.eax g.ecx g.edx g.ebx g.esp g.ebp g.esi g.edi fits.regs made.0) in
       let b = flags_reached p.regs p.flags refl in
@@ -580,7 +571,7 @@ row_reached image k marked rows s at ready small =
     let others : list_all is_plain fs ≡ true = one_plain (hex8 at) (plain_word at) in
     taken_line s (reading image stages.Row k marked rows at no_state) (codes "row") fs (row_line at) (row_head at) refl others ready.on
     (ready.row (codes "row" ++ spaced fs) fs (parted (codes "row") fs refl others)
-    ∙ ap (λ o. or_fault FIELD o (λ n. Ok (reading image stages.Row k marked rows n no_state))) (address_back at small))
+    ∙ ap (λ o. or_fault FIELD o (λ n. Ok (reading image stages.Row k marked rows n no_state))) (only_word_read at (word_small at small)))
 
 record RowsRead (image : Image) (k : ℕ) (marked : List ℕ) (s : Reading) (done todo : List (ℕ × Known Bounded)) : Type 0 where
   later : Reading
@@ -612,15 +603,9 @@ rows_reached image k marked s done (row ∷ todo) loaded ready fits are =
       reached = reaches_both table_grammar s next rest.later (row_text row) (flat_map row_text todo) one rest.reached;
     }
 
-same_number : (n : ℕ) → (n == n) ≡ true
-same_number n = grind (arith, nat_tests)
-
-count_read : (n : ℕ) → n < 2 ^ 64 → count_of n (decimal n) ≡ Some true
-count_read n small = ap (option_map (λ m. m == n)) (decimal_read n small) ∙ ap Some (same_number n)
-
 count_back : (r : Reading) → length r.rows < 2 ^ 64 → count_fields r (decimal (length r.rows) ∷ []) ≡ Some true
 unfolding count_fields
-count_back r few = read_as (count_of (length r.rows)) (decimal (length r.rows)) [] true (λ same fs. no_more same fs) (count_read (length r.rows) few)
+count_back r few = then_given (decimal_is (length r.rows)) (decimal (length r.rows)) [] true (λ same fs. no_more same fs) (number_written (length r.rows) few)
 
 end_reached : (image : Image) (k : ℕ) (marked : List ℕ) (rows : List (ℕ × Known Bounded)) (s : Reading) (ready : IsReady image k marked rows s) → length rows < 2 ^ 64
     → Reaches table_grammar s (end_line (length rows)) (reading image stages.Ended k marked rows ready.at no_state)

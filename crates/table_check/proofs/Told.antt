@@ -13,15 +13,14 @@ use Rattle.std.proofs.lemmas.List.Elements.{All-nil, All-push, All-weaker}
 use Rattle.memory_map.specs.Image.{Image}
 use Rattle.memory_map.specs.declared.registers.Regs.{Regs}
 use Rattle.address_regions.specs.declared.region.Region.TheVariants.{Stack}
-use Rattle.text_fields.specs.Decimal.{decimal_number}
-use Rattle.text_fields.specs.Fields.{no_more}
+use Rattle.text_fields.specs.Decimal.{decimal_is}
+use Rattle.text_fields.specs.Fields.{no_more, only_word}
 use Rattle.text_fields.specs.Hex.{hex8}
 use Rattle.text_fields.specs.Line.{newline, space}
 use Rattle.text_fields.specs.declared.line_fault.LineFault.{LineFault}
 use Rattle.bit_words.specs.Width.{bytes_of}
-use Rattle.text_fields.specs.Lines.{CONTENT, COUNT, FIELD, HEADER, ORDER, WORD, after_line, end_fault, fields, lines, read_from, read_text}
-use Rattle.text_fields.proofs.DecimalFacts.{decimal_is_text}
-use Rattle.text_fields.proofs.FieldTexts.{has_field, is_done}
+use Rattle.text_fields.specs.Lines.{CONTENT, COUNT, FIELD, HEADER, ORDER, WORD, after_line, end_fault, fields, lines, read_from, read_text, demand, or_fault, follows_last}
+use Rattle.text_fields.proofs.FieldTexts.{has_field, is_done, only_word_is, number_told}
 use Rattle.text_fields.proofs.Splitting.{fields_back, spaced}
 use Rattle.bounded_values.specs.declared.value.Bounded.{Bounded}
 use Rattle.bounded_values.specs.BoundedLaws.{bounded}
@@ -46,24 +45,14 @@ use Rattle.abstract_state.proofs.Keeping.{no-note}
 use Rattle.table_check.specs.declared.table.Table.{Table}
 use Rattle.table_check.specs.declared.stage.Stage.{Stage}
 use Rattle.table_check.specs.declared.stage.Stage.TheVariants as stages
-use Rattle.table_check.specs.Fields.{address_fields, block_fields, dirty_fields, fact_fields, flags_fields, k_fields, note_fields, regs_fields}
+use Rattle.table_check.specs.Fields.{block_fields, dirty_fields, fact_fields, flags_fields, k_fields, note_fields, regs_fields}
 use Rattle.table_check.specs.TextLaws.{IsStateOf, IsTableOf, TextsTellTables, are_made, is_above, is_made}
-use Rattle.table_check.specs.Reading.{Reading, block_step, closed, closed_by, count_fields, count_of, demand, dirty_step, end_step, fact_step, flags_step, follows_last, header_step, is_dirty_above, is_fact_above, is_over, k_step, mark_or_next_step, after_state, mark_step, next_step, no_state, note_step, nothing, or_fault, part_of, regs_step, row_step, state_step, step_after, table_grammar, table_read, table_step, told}
+use Rattle.table_check.specs.Reading.{Reading, block_step, closed, closed_by, count_fields, dirty_step, end_step, fact_step, flags_step, header_step, is_dirty_above, is_fact_above, is_over, k_step, mark_or_next_step, after_state, mark_step, next_step, no_state, note_step, nothing, part_of, regs_step, row_step, state_step, step_after, table_grammar, table_read, table_step, told}
 use Rattle.table_check.specs.Text.{area_text, block_line, count_text, dirty_line, end_line, fact_line, flags_line, header_text, k_line, note_line, offset_text, open_line, region_text, regs_line, row_line, row_text, state_text, table_text, truth_code, value_text}
-use Rattle.table_check.proofs.FieldsTold.{address_told, block_list, block_told, dirty_list, dirty_told, fact_list, fact_made, fact_told, flags_told, k_told, mapped, note_list, note_small, note_told, regs_told, same_word}
-
--- ---- what is behind a test or something found
-
-if_ok : {A : Type 0} (t : Bool) (kind : ℕ) (x : Result A ℕ) (a : A) → (if t then x else Err kind) ≡ Ok a → (t ≡ true) × (x ≡ Ok a)
-if_ok true kind x a h = (refl, h)
-if_ok false kind x a h = cc
-
-found_ok : {A B : Type 0} (kind : ℕ) (o : Option A) (go : A → Result B ℕ) (b : B) → or_fault kind o go ≡ Ok b → (a : A) × (o ≡ Some a) × (go a ≡ Ok b)
-found_ok kind None go b h = cc
-found_ok kind (Some a) go b h = (a, refl, h)
-
-same_ok : {A : Type 0} (a b : A) → ◌≡◌ {A = Result A ℕ} (Ok a) (Ok b) → a ≡ b
-same_ok a b h = cc
+use Rattle.table_check.proofs.FieldsTold.{block_list, block_told, dirty_list, dirty_told, fact_list, fact_made, fact_told, flags_told, k_told, note_list, note_small, note_told, regs_told}
+use Rattle.std.proofs.lemmas.Bool.{and_parts, and_from}
+use Rattle.text_fields.proofs.Found.{if_ok, found_ok, same_ok, same_word}
+use Rattle.text_fields.proofs.LastOnes.{last_of_later}
 
 -- ---- what was told so far
 
@@ -225,28 +214,14 @@ mark_added : (base : List ℕ) (marked : List ℕ) (rows : List (ℕ × Known Bo
     → base ++ flat_map open_line (marked ++ at ∷ []) ++ flat_map row_text rows ≡ (base ++ flat_map open_line marked ++ flat_map row_text rows) ++ line
 mark_added base marked rows at line empty is = rw (empty, is, flat_map-last open_line marked at) (simp (append_assoc, append-nil))
 
-both : (s t : Bool) → (s && t) ≡ true → (s ≡ true) × (t ≡ true)
-both true t e = (refl, e)
-both false t e = absurd (cc)
-
-both_true : (s t : Bool) → s ≡ true → t ≡ true → (s && t) ≡ true
-both_true true t e f = f
-both_true false t e f = e
-
-last-later : {X : Type 0} (x y : X) (ys : List X) → slice_get (x ∷ y ∷ ys) (length (x ∷ y ∷ ys) - 1) ≡ slice_get (y ∷ ys) (length (y ∷ ys) - 1)
-last-later x y ys =
-    let far : length (x ∷ y ∷ ys) - 1 ≡ suc (length ys) = omega arith in
-    let near : length (y ∷ ys) - 1 ≡ length ys = omega arith in
-    ap (slice_get (x ∷ y ∷ ys)) far ∙ ap (slice_get (y ∷ ys)) (sym near)
-
 -- an element that follows the last one goes on with them
 ascend_more : {X : Type 0} (test : X → X → Bool) (xs : List X) (x : X) → ascend test xs ≡ true → follows_last test xs x ≡ true → ascend test (xs ++ x ∷ []) ≡ true
 ascend_more test [] x so here = refl
-ascend_more test (y ∷ []) x so here = both_true (test y x) true here refl
+ascend_more test (y ∷ []) x so here = and_from (test y x) true here refl
 ascend_more test (y ∷ z ∷ zs) x so here =
-    let parts : (test y z ≡ true) × (ascend test (z ∷ zs) ≡ true) = both (test y z) (ascend test (z ∷ zs)) so in
-    both_true (test y z) (ascend test (z ∷ (zs ++ x ∷ []))) parts.0
-    (ascend_more test (z ∷ zs) x parts.1 (ap (λ o. option_map_or (λ l. test l x) o true) (sym (last-later y z zs)) ∙ here))
+    let parts : (test y z ≡ true) × (ascend test (z ∷ zs) ≡ true) = and_parts (test y z) (ascend test (z ∷ zs)) so in
+    and_from (test y z) (ascend test (z ∷ (zs ++ x ∷ []))) parts.0
+    (ascend_more test (z ∷ zs) x parts.1 (ap (λ o. option_map_or (λ l. test l x) o true) (sym (last_of_later y z zs)) ∙ here))
 
 mark_by : (r t : Reading) (line : List ℕ) (at : ℕ) → KeepsAt stages.Marks r → r.stage ≡ stages.Marks → line ++ newline ≡ open_line at → mark_step r at ≡ Ok t → Adds stages.Marks r t line
 unfolding mark_step
@@ -304,8 +279,8 @@ few_whole stage r u w short = few_rows u (subst (λ l. length l < 2 ^ 64) (sym w
 row_by : (stage : Stage) (r u t : Reading) (line word : List ℕ) (fs : List (List ℕ)) → IsWhole stage r u → fields line ≡ word ∷ fs → bytes_eq word (codes "row") ≡ true → row_step u fs ≡ Ok t → Adds stage r t line
 row_by stage r u t line word fs w parts is h =
     let go : ℕ → Result Reading ℕ = λ at. Ok (record u { stage = stages.Row; at = at }) in
-    let f : (at : ℕ) × (address_fields fs ≡ Some at) × (go at ≡ Ok t) = found_ok FIELD (address_fields fs) go t h in
-    let whole : line ++ newline ≡ row_line f.0 = ap (λ l. l ++ newline) (worded line word (codes "row") fs (hex8 f.0 ∷ []) parts is (address_told fs f.0 f.1)) ∙ row_head f.0 in
+    let f : (at : ℕ) × (only_word fs ≡ Some at) × (go at ≡ Ok t) = found_ok FIELD (only_word fs) go t h in
+    let whole : line ++ newline ≡ row_line f.0 = ap (λ l. l ++ newline) (worded line word (codes "row") fs (hex8 f.0 ∷ []) parts is (only_word_is fs f.0 f.1)) ∙ row_head f.0 in
     let v : Reading = record u { stage = stages.Row; at = f.0 } in
     subst (λ (x : Reading). Adds stage r x line) (same_ok v t f.2) (record {
       kept = record { begun = w.clear; k = w.k; marked = w.marked; rows = w.rows; made = w.made; noted = unnoted w.clear.0 };
@@ -316,21 +291,12 @@ row_by stage r u t line word fs w parts is h =
 below : (a b : ℕ) → nat_lt a b ≡ true → a < b
 below a b e = grind (arith, nat_tests)
 
-equal : (a b : ℕ) → (a == b) ≡ true → a ≡ b
-equal a b e = grind (arith, nat_tests)
-
-count_is : (field : List ℕ) (n : ℕ) → n < 2 ^ 64 → count_of n field ≡ Some true → field ≡ decimal n
-count_is field n small h =
-    let m : (k : ℕ) × (decimal_number field ≡ Some k) × ((k == n) ≡ true) = mapped (λ k. k == n) (decimal_number field) true h in
-    let same : m.0 ≡ n = equal m.0 n m.2 in
-    decimal_is_text field m.0 (omega arith) m.1 ∙ ap decimal same
-
 count_told : (r : Reading) (fs : List (List ℕ)) → length r.rows < 2 ^ 64 → count_fields r fs ≡ Some true → fs ≡ decimal (length r.rows) ∷ []
 unfolding count_fields
 count_told r fs few h =
-    let f = has_field (count_of (length r.rows)) fs (λ same fs. no_more same fs) true h in
+    let f = has_field (decimal_is (length r.rows)) fs (λ same fs. no_more same fs) true h in
     let d = is_done f.value true f.others f.after in
-    f.begins ∙ ap (λ gs. f.field ∷ gs) d.none ∙ ap (λ l. l ∷ []) (count_is f.field (length r.rows) few (f.gives ∙ ap Some d.same))
+    f.begins ∙ ap (λ gs. f.field ∷ gs) d.none ∙ ap (λ l. l ∷ []) (number_told f.field (length r.rows) few (f.gives ∙ ap Some d.same))
 
 end_by : (stage : Stage) (r u t : Reading) (line word : List ℕ) (fs : List (List ℕ)) → IsWhole stage r u → fields line ≡ word ∷ fs → bytes_eq word (codes "end") ≡ true → end_step u fs ≡ Ok t → Adds stage r t line
 unfolding end_step
@@ -368,7 +334,7 @@ regs_by r t line (word ∷ fs) kept parts h =
     let f : (vs : List Bounded) × (regs_fields fs ≡ Some vs) × (go vs ≡ Ok t) = found_ok FIELD (regs_fields fs) go t w.1 in
     let values : (fs ≡ map value_text f.0) × (list_all is_made f.0 ≡ true) = regs_told fs f.0 f.1 in
     let whole : line ++ newline ≡ regs_line f.0 = ap (λ l. l ++ newline) (worded line word (codes "regs") fs (map value_text f.0) parts w.0 values.0) ∙ regs_text f.0 in
-    let others : (list_all is_made r.state.regs ≡ true) × (list_all (λ (x : Fact Bounded). is_made x.value) r.state.facts ≡ true) = both (list_all is_made r.state.regs) (list_all (λ (x : Fact Bounded). is_made x.value) r.state.facts) kept.made in
+    let others : (list_all is_made r.state.regs ≡ true) × (list_all (λ (x : Fact Bounded). is_made x.value) r.state.facts ≡ true) = and_parts (list_all is_made r.state.regs) (list_all (λ (x : Fact Bounded). is_made x.value) r.state.facts) kept.made in
     let u : Reading = record r { stage = stages.Regs; state = record (r.state) { regs = f.0 } } in
     subst (λ (x : Reading). Adds stages.Row r x line) (same_ok u t f.2) (record {
       kept = record {
@@ -376,7 +342,7 @@ regs_by r t line (word ∷ fs) kept parts h =
         k = kept.k;
         marked = kept.marked;
         rows = kept.rows;
-        made = both_true (list_all is_made f.0) (list_all (λ (x : Fact Bounded). is_made x.value) r.state.facts) values.1 others.1;
+        made = and_from (list_all is_made f.0) (list_all (λ (x : Fact Bounded). is_made x.value) r.state.facts) values.1 others.1;
         noted = kept.noted;
       };
       text = λ _. ap (λ l. (front r ++ row_line r.at) ++ l) (sym whole);
@@ -446,11 +412,11 @@ block_added base head blocks c line is = rw (is, flat_map-last block_line blocks
 made_more : (s : StateData Bounded) (f : Fact Bounded) → are_made s ≡ true → is_made f.value ≡ true → are_made (record s { facts = s.facts ++ f ∷ [] }) ≡ true
 made_more s f made own =
     let is_value : Fact Bounded → Bool = λ x. is_made x.value in
-    let h : (list_all is_made s.regs ≡ true) × (list_all is_value s.facts ≡ true) = both (list_all is_made s.regs) (list_all is_value s.facts) made in
+    let h : (list_all is_made s.regs ≡ true) × (list_all is_value s.facts ≡ true) = and_parts (list_all is_made s.regs) (list_all is_value s.facts) made in
     let facts : list_all is_value (s.facts ++ f ∷ []) ≡ true =
-    list_all-append is_value s.facts (f ∷ []) ∙ both_true (list_all is_value s.facts) (is_made f.value && true) h.1 (both_true (is_made f.value) true own refl)
+    list_all-append is_value s.facts (f ∷ []) ∙ and_from (list_all is_value s.facts) (is_made f.value && true) h.1 (and_from (is_made f.value) true own refl)
     in
-    both_true (list_all is_made s.regs) (list_all is_value (s.facts ++ f ∷ [])) h.0 facts
+    and_from (list_all is_made s.regs) (list_all is_value (s.facts ++ f ∷ [])) h.0 facts
 
 note_of : (n : Note) → is_well_note n ≡ true → compared_with n < 2 ^ 32 → IsWellNote n
 note_of (Register r c) e small = (below r 8 e, small)
@@ -562,7 +528,7 @@ module _ (image : Image) (p : StateData Bounded) (s : Known Bounded) (noted : Fo
   well_by g t true r e h =
       let made : Known Bounded = record { regs = g; flags = t; note = p.note; parts = parts_of p } in
       let same : made ≡ s = cc in
-      subst (IsWellState bounded) same (built-well bounded image p g t (both (is_state bounded image p) (is_note p.note) e).0 r noted)
+      subst (IsWellState bounded) same (built-well bounded image p g t (and_parts (is_state bounded image p) (is_note p.note) e).0 r noted)
   well_by g t false r e h = cc
 
   flags_well : (g : Regs Bounded) (t : Option Truths) → registers_of p.regs ≡ Some g
@@ -665,10 +631,10 @@ state_told stage r t line (word ∷ fs) here part parts h =
     (nat_lt (part_of stage) 1) (nat_le (part_of stage) 2) (nat_le (part_of stage) 3) parts refl refl refl refl refl refl refl (subst P here h)
 
 mark_or_next : (r t : Reading) (line word : List ℕ) (fs : List (List ℕ)) (mark : Bool) → r.stage ≡ stages.Marks → KeepsAt stages.Marks r → fields line ≡ word ∷ fs → bytes_eq word (codes "open") ≡ mark
-    → (if mark then or_fault FIELD (address_fields fs) (mark_step r) else next_step r word fs) ≡ Ok t → Adds stages.Marks r t line
+    → (if mark then or_fault FIELD (only_word fs) (mark_step r) else next_step r word fs) ≡ Ok t → Adds stages.Marks r t line
 mark_or_next r t line word fs true here kept parts e h =
-    let f : (at : ℕ) × (address_fields fs ≡ Some at) × (mark_step r at ≡ Ok t) = found_ok FIELD (address_fields fs) (mark_step r) t h in
-    mark_by r t line f.0 kept here (ap (λ l. l ++ newline) (worded line word (codes "open") fs (hex8 f.0 ∷ []) parts e (address_told fs f.0 f.1)) ∙ open_text f.0) f.2
+    let f : (at : ℕ) × (only_word fs ≡ Some at) × (mark_step r at ≡ Ok t) = found_ok FIELD (only_word fs) (mark_step r) t h in
+    mark_by r t line f.0 kept here (ap (λ l. l ++ newline) (worded line word (codes "open") fs (hex8 f.0 ∷ []) parts e (only_word_is fs f.0 f.1)) ∙ open_text f.0) f.2
 mark_or_next r t line word fs false here kept parts e h =
     let w : IsWhole stages.Marks r r = record { text = refl; image = refl; clear = kept.begun.1; k = kept.k; marked = kept.marked; rows = kept.rows; made = kept.made } in
     after_whole stages.Marks r r t line word fs w parts h
@@ -783,7 +749,7 @@ Tells image text t = IsTableOf image t × (length text < 2 ^ 64 → table_text t
 table_by : (image : Image) (text : List ℕ) (r : Reading) → Told (nothing image) r (join_with_byte 10 (lines text)) → Tells image text (table_of r)
 unfolding lines table_text
 table_by image text r is =
-    let bounds = both (nat_le 1 r.k) (nat_le r.k 1024) (k_over r.stage r.k is.over is.kept.k) in
+    let bounds = and_parts (nat_le 1 r.k) (nat_le r.k 1024) (k_over r.stage r.k is.over is.kept.k) in
     let P : Image → Type 0 = λ i. All (λ (row : ℕ × Known Bounded). IsStateOf i row.1) r.rows in
     let back : join_with_byte 10 (lines text) ≡ text = join_with_byte-slice_split 10 text in (
       record { k_least = at_most 1 r.k bounds.0; k_greatest = at_most r.k 1024 bounds.1; marked = is.kept.marked; rows = subst P is.image is.kept.rows },

@@ -1,8 +1,9 @@
 -- The fields of the lines of tables: what each form of field writes, and lines by the forms of their fields.
-use Rattle.std.specs.Prelude.{ℕ, ◌+◌, ◌==◌, ◌^◌, ◌&&◌, Bool, true, false, List, [], ◌∷◌, length, take, drop, codes, position, Option, None, Some, option_and_then, option_map, nat_le, nat_lt, ℤ, pos, if◌then◌else◌}
+use Rattle.std.specs.Prelude.{ℕ, ◌==◌, ◌^◌, ◌&&◌, Bool, true, false, List, [], ◌∷◌, length, codes, Option, None, Some, option_and_then, option_map, nat_le, nat_lt, ℤ, pos, if◌then◌else◌}
 use Rattle.std.specs.Str.{bytes_eq}
 use Rattle.text_fields.specs.Decimal.{decimal_below}
-use Rattle.text_fields.specs.Fields.{no_more, then_field, word_of}
+use Rattle.text_fields.specs.Fields.{bool_of, no_more, then_field, word_of}
+use Rattle.text_fields.specs.Lines.{cut_at}
 use Rattle.bit_words.specs.declared.width.Width.{Width}
 use Rattle.bit_words.specs.declared.width.Width.TheVariants.{B8, B16, B32}
 use Rattle.bit_words.specs.Width.{signed_of}
@@ -21,14 +22,7 @@ use Rattle.abstract_state.specs.declared.truth.Truth.TheVariants.{Yes, No, Unkno
 use Rattle.abstract_state.specs.declared.note.Note.{Note}
 use Rattle.abstract_state.specs.declared.note.Note.TheVariants.{Register, Word}
 
--- what stands before the first of these bytes and what behind it, where there is one
-abbrev pub cut_at : ℕ → List ℕ → Option (List ℕ × List ℕ)
-cut_at separator text = option_map (λ at. (take at text, drop (at + 1) text)) (position (λ b. b == separator) text)
-
 -- ---- regions and areas
-
-abbrev pub bit_of : List ℕ → Option Bool
-bit_of field = if bytes_eq field (codes "1") then Some true else if bytes_eq field (codes "0") then Some false else None
 
 abbrev pub window_of : List ℕ → Option Region
 window_of field =
@@ -39,7 +33,7 @@ window_of field =
 
 abbrev pub block_by : List ℕ → List ℕ → List ℕ → Option Region
 block_by site size zeroed =
-    option_and_then (λ site. option_and_then (λ size. option_map (λ zeroed. Block site size zeroed) (bit_of zeroed)) (word_of size)) (word_of site)
+    option_and_then (λ site. option_and_then (λ size. option_map (λ zeroed. Block site size zeroed) (bool_of zeroed)) (word_of size)) (word_of site)
 
 -- the site and the rest behind it
 abbrev pub block_of : List ℕ → Option Region
@@ -125,9 +119,6 @@ many_of field = if bytes_eq field (codes "one") then Some false else if bytes_eq
 
 unfoldable pub k_fields : List (List ℕ) → Option ℕ
 k_fields fs = then_field k_of fs (λ k fs. no_more k fs)
-
-unfoldable pub address_fields : List (List ℕ) → Option ℕ
-address_fields fs = then_field word_of fs (λ at fs. no_more at fs)
 
 -- EAX ECX EDX EBX ESP EBP ESI EDI
 unfoldable pub regs_fields : List (List ℕ) → Option (List Bounded)

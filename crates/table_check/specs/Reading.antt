@@ -1,11 +1,10 @@
 -- How the text of a table is read: what each whole line makes of what was read before it, or the kind of its fault.
-use Rattle.std.specs.Prelude.{ℕ, ◌==◌, ◌-◌, ◌&&◌, Bool, true, false, List, [], ◌∷◌, ◌++◌, length, codes, slice_get, nat_le, nat_lt, Option, None, Some, option_map, Result, Ok, Err, if◌then◌else◌}
-use Rattle.std.specs.Option.{option_map_or}
+use Rattle.std.specs.Prelude.{ℕ, ◌&&◌, Bool, true, false, List, [], ◌∷◌, ◌++◌, length, codes, nat_le, nat_lt, Option, None, Some, Result, Ok, Err, if◌then◌else◌}
 use Rattle.std.specs.Str.{bytes_eq}
 use Rattle.memory_map.specs.Image.{Image}
-use Rattle.text_fields.specs.Decimal.{decimal_number}
-use Rattle.text_fields.specs.Fields.{no_more, then_field}
-use Rattle.text_fields.specs.Lines.{CONTENT, COUNT, END, FIELD, Grammar, HEADER, ORDER, WORD, fields, read_text}
+use Rattle.text_fields.specs.Decimal.{decimal_is}
+use Rattle.text_fields.specs.Fields.{no_more, only_word, then_field}
+use Rattle.text_fields.specs.Lines.{CONTENT, COUNT, END, FIELD, Grammar, HEADER, ORDER, WORD, demand, fields, follows_last, or_fault, read_text}
 use Rattle.text_fields.specs.declared.line_fault.LineFault.{LineFault}
 use Rattle.bounded_values.specs.declared.value.Bounded.{Bounded}
 use Rattle.bounded_values.specs.BoundedLaws.{bounded}
@@ -23,7 +22,7 @@ use Rattle.abstract_state.specs.Building.{built, is_dirty_of, is_fact_of, is_wel
 use Rattle.table_check.specs.declared.table.Table.{Table}
 use Rattle.table_check.specs.declared.stage.Stage.{Stage}
 use Rattle.table_check.specs.declared.stage.Stage.TheVariants as stages
-use Rattle.table_check.specs.Fields.{address_fields, block_fields, dirty_fields, fact_fields, flags_fields, k_fields, note_fields, regs_fields}
+use Rattle.table_check.specs.Fields.{block_fields, dirty_fields, fact_fields, flags_fields, k_fields, note_fields, regs_fields}
 use Rattle.table_check.specs.Text.{header_text}
 
 -- ---- what was read so far
@@ -46,21 +45,6 @@ no_state = record { regs = []; flags = []; note = None; facts = []; dirty = []; 
 abbrev pub nothing : Image → Reading
 nothing image = record { image = image; stage = stages.Start; k = 0; marked = []; rows = []; at = 0; state = no_state }
 
--- ---- faults
-
--- what holds, or a fault of this kind
-abbrev pub demand : {A : Type 0} → Bool → ℕ → Result A ℕ → Result A ℕ
-demand holds kind go = if holds then go else Err kind
-
--- what comes of what was found, or a fault of this kind where nothing was
-abbrev pub or_fault : {A B : Type 0} → ℕ → Option A → (A → Result B ℕ) → Result B ℕ
-or_fault kind None go = Err kind
-or_fault kind (Some found) go = go found
-
--- whether an element passes a test with the last one of a list, where that has one
-abbrev pub follows_last : {X : Type 0} → (X → X → Bool) → List X → X → Bool
-follows_last test xs x = option_map_or (λ last. test last x) (slice_get xs (length xs - 1)) true
-
 -- ---- before the rows
 
 abbrev pub header_step : Reading → List ℕ → Result Reading ℕ
@@ -77,7 +61,7 @@ mark_step r at = demand (follows_last nat_lt r.marked at) ORDER (Ok (record r { 
 -- ---- a row, its registers and its flags
 
 abbrev pub row_step : Reading → List (List ℕ) → Result Reading ℕ
-row_step r fs = or_fault FIELD (address_fields fs) (λ at. Ok (record r { stage = stages.Row; at = at }))
+row_step r fs = or_fault FIELD (only_word fs) (λ at. Ok (record r { stage = stages.Row; at = at }))
 
 abbrev pub with_regs : List Bounded → Reading → Reading
 with_regs regs r = record r { stage = stages.Regs; state = record (r.state) { regs = regs } }
@@ -135,12 +119,8 @@ closed r = closed_by (built bounded r.image r.state) r
 
 -- ---- the `end` line
 
--- whether a field writes this number
-abbrev pub count_of : ℕ → List ℕ → Option Bool
-count_of n field = option_map (λ m. m == n) (decimal_number field)
-
 unfoldable pub count_fields : Reading → List (List ℕ) → Option Bool
-count_fields r fs = then_field (count_of (length r.rows)) fs (λ same fs. no_more same fs)
+count_fields r fs = then_field (decimal_is (length r.rows)) fs (λ same fs. no_more same fs)
 
 unfoldable pub end_step : Reading → List (List ℕ) → Result Reading ℕ
 end_step r fs = or_fault FIELD (count_fields r fs) (λ same. demand same COUNT (Ok (record r { stage = stages.Ended })))
@@ -158,7 +138,7 @@ next_step r word fs =
 unfoldable pub mark_or_next_step : Reading → List (List ℕ) → Result Reading ℕ
 mark_or_next_step r [] = Err WORD
 mark_or_next_step r (word ∷ fs) =
-    if bytes_eq word (codes "open") then or_fault FIELD (address_fields fs) (mark_step r) else next_step r word fs
+    if bytes_eq word (codes "open") then or_fault FIELD (only_word fs) (mark_step r) else next_step r word fs
 
 -- how far a state was read: to its flags, its note, its facts, its dirty ranges or its counts
 abbrev pub part_of : Stage → ℕ

@@ -21,18 +21,15 @@ use Rattle.abstract_state.specs.declared.plain.StateData.{StateData}
 use Rattle.abstract_state.specs.State.{Known}
 use Rattle.abstract_state.specs.Building.{plain_of}
 use Rattle.table_check.specs.declared.table.Table.{Table}
+use Rattle.text_fields.specs.Fields.{bool_text}
 
 -- ---- fields
-
-abbrev pub bit_text : Bool → List ℕ
-bit_text true = codes "1"
-bit_text false = codes "0"
 
 unfoldable pub region_text : Region → List ℕ
 region_text Stack = codes "stack"
 region_text Fs = codes "fs"
 region_text Gs = codes "gs"
-region_text (Block site size zeroed) = codes "b." ++ hex8 site ++ codes "." ++ hex8 size ++ codes "." ++ bit_text zeroed
+region_text (Block site size zeroed) = codes "b." ++ hex8 site ++ codes "." ++ hex8 size ++ codes "." ++ bool_text zeroed
 
 abbrev pub area_text : Area → List ℕ
 area_text Image = codes "image"

@@ -1,5 +1,5 @@
-ghost use Rattle.std.specs.Prelude.{◌≡◌, ◌==◌, IfOk, MatchOption, option_map, position};
-ghost use Rattle.table_check.specs.Fields.{address_fields, area_of, bit_of, block_by, block_fields, block_of, cut_at, dirty_fields, fact_fields, flags_fields, flags_of, inside_in, inside_of, k_fields, k_of, low_in, many_of, note_fields, place_by, place_of, plain_value, region_of, register_note, register_of, regs_fields, truth_of, truths_by, value_of, width_of, window_of, word_note};
+ghost use Rattle.std.specs.Prelude.{◌≡◌, IfOk, MatchOption, option_map};
+ghost use Rattle.table_check.specs.Fields.{area_of, block_by, block_fields, block_of, dirty_fields, fact_fields, flags_fields, flags_of, inside_in, inside_of, k_fields, k_of, low_in, many_of, note_fields, place_by, place_of, plain_value, region_of, register_note, register_of, regs_fields, truth_of, truths_by, value_of, width_of, window_of, word_note};
 ghost use Rattle.text_fields.specs.Fields.{Lacks, Reads};
 
 use abstract_state::{Note, Truth};
@@ -8,35 +8,9 @@ use bit_words::{NoMemory, Width};
 use bounded_values::Bounded;
 use partitioned_memory::{Area, Counted, Dirty, Fact};
 use std::alloc::Global;
-use text_fields::{Fields, parse_decimal, parse_hex8};
-
-fn place_of_byte(text: &[u8], byte: u8) -> Option<usize>
-    ensures { result ≡ position (λ b. b == byte) text.now }
-{
-    text.iter().position(|b| *b == byte)
-}
-
-// What stands before the first of these bytes and what behind it, where there is one.
-fn cut_at(separator: u8, text: &[u8]) -> Option<(&[u8], &[u8])>
-    ensures { option_map (λ p. (p.0.now, p.1.now)) result ≡ cut_at separator text.now }
-{
-    let at = place_of_byte(text, separator)?;
-    Some((&text[..at], &text[at + 1..]))
-}
+use text_fields::{Fields, cut_at, parse_bool, parse_decimal, parse_hex8};
 
 // ---- regions and areas
-
-fn bit_of(field: &[u8]) -> Option<bool>
-    ensures { result ≡ bit_of field.now }
-{
-    if field == b"1".as_slice() {
-        Some(true)
-    } else if field == b"0".as_slice() {
-        Some(false)
-    } else {
-        None
-    }
-}
 
 fn window_of(field: &[u8]) -> Option<Region>
     ensures { result ≡ window_of field.now }
@@ -57,7 +31,7 @@ fn block_by(site: &[u8], size: &[u8], zeroed: &[u8]) -> Option<Region>
 {
     let site = parse_hex8(site)?;
     let size = parse_hex8(size)?;
-    let zeroed = bit_of(zeroed)?;
+    let zeroed = parse_bool(zeroed)?;
     Some(Region::Block { site, size, zeroed })
 }
 
@@ -273,15 +247,6 @@ pub fn k_fields(mut fields: Fields) -> Option<u32>
 {
     let k = k_of(fields.next_field()?)?;
     if fields.is_done() { Some(k) } else { None }
-}
-
-/// An address and no more.
-#[tactic(auto, unfolding(crate::specs::Fields::address_fields), using(text_fields::proofs::FieldFacts::then_reads, text_fields::proofs::FieldFacts::then_lacks))]
-pub fn address_fields(mut fields: Fields) -> Option<u32>
-    ensures { result ≡ address_fields fields.entry }
-{
-    let at = fields.next_word()?;
-    if fields.is_done() { Some(at) } else { None }
 }
 
 /// The values of the eight registers.

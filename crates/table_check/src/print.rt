@@ -9,7 +9,7 @@ use bit_words::{NoMemory, Width};
 use bounded_values::Bounded;
 use partitioned_memory::{Area, Counted, Dirty, Fact};
 use std::alloc::Global;
-use text_fields::{push_bytes, push_decimal, push_hex8};
+use text_fields::{push_bool, push_bytes, push_decimal, push_hex8};
 
 /// The text of a table: its k, a line for each marked location, and the lines of each row in the order that they stand in.
 /// Only want of memory refuses.
@@ -261,7 +261,7 @@ fn push_region(out: &mut Vec<u8>, region: Region) -> Result<(), NoMemory>
             push_bytes(out, b".")?;
             push_hex8(out, size)?;
             push_bytes(out, b".")?;
-            push_bytes(out, if zeroed { b"1" } else { b"0" })
+            push_bool(out, zeroed)
         }
     }
 }

@@ -4,13 +4,12 @@ ghost use Rattle.partitioned_memory.specs.Building.{is_sound_dirty, is_sound_fac
 ghost use Rattle.partitioned_memory.specs.Pairs.{spot_before};
 ghost use Rattle.abstract_state.specs.Building.{is_dirty_of, is_fact_of};
 ghost use Rattle.partitioned_memory.specs.Held.{count_before, dirty_before, fact_before, spot_at};
-ghost use Rattle.table_check.specs.Reading.{block_step, closed, count_fields, dirty_step, end_step, fact_step, flags_step, follows_last, header_step, is_dirty_above, is_fact_above, k_step, mark_or_next_step, mark_step, next_step, no_state, note_step, nothing, part_of, regs_step, row_step, state_step, table_read, told};
-ghost use Rattle.text_fields.specs.Lines.{IsFaultOf, IsRefusalOf, fields};
+ghost use Rattle.table_check.specs.Reading.{block_step, closed, count_fields, dirty_step, end_step, fact_step, flags_step, header_step, is_dirty_above, is_fact_above, k_step, mark_or_next_step, mark_step, next_step, no_state, note_step, nothing, part_of, regs_step, row_step, state_step, table_read, told};
+ghost use Rattle.text_fields.specs.Lines.{IsFaultOf, IsRefusalOf, fields, follows_last};
 
 use crate::Table;
 use crate::fields::{
-    address_fields, block_fields, dirty_fields, fact_fields, flags_fields, k_fields, note_fields,
-    regs_fields,
+    block_fields, dirty_fields, fact_fields, flags_fields, k_fields, note_fields, regs_fields,
 };
 use crate::stage::Stage;
 use abstract_state::{BuildFault, Note, State, StateData, Truth, is_dirty_of, is_fact_of};
@@ -239,7 +238,7 @@ impl<'a> TableReader<'a> {
     fn read_row(&mut self, fields: Fields) -> Result<(), LineRefusal>
         ensures { MatchResult result (λ _. row_step self.old fields.entry ≡ Ok self.new) (λ e. IsRefusalOf (row_step self.old fields.entry) e) }
     {
-        let Some(at) = address_fields(fields) else {
+        let Some(at) = fields.only_word() else {
             return Err(LineRefusal::Kind(FIELD));
         };
         self.at = at;
@@ -424,7 +423,7 @@ impl<'a> TableReader<'a> {
             return Err(LineRefusal::Kind(WORD));
         };
         if word == b"open".as_slice() {
-            let Some(at) = address_fields(fields) else {
+            let Some(at) = fields.only_word() else {
                 return Err(LineRefusal::Kind(FIELD));
             };
             return self.add_mark(at);

@@ -4,6 +4,7 @@ use Rattle.std.specs.Prelude.{not, option_and_then, option_map}
 use Rattle.std.specs.Str.{IsUtf8, all_ascii_digits}
 use Rattle.std.specs.Char.{is_ascii_digit}
 use Rattle.std.specs.List.{list_all}
+use Rattle.std.proofs.lemmas.Bool.{and_parts}
 use Rattle.std.proofs.lemmas.Bool.Decides.{nat_tests}
 use Rattle.text_fields.specs.Decimal.{is_decimal, decimal_number, decimal_below}
 use Rattle.std.specs.Str.Parse.{IsNumeral, AllDigits, digits_value}
@@ -65,17 +66,12 @@ pub record Plain (text : List ℕ) : Type 0 where
   pub numeral : IsNumeral 10 text
   pub short : get_or text 0 0 ≡ 48 → length text ≤ 1
 
-both : (a b : Bool) → (a && b) ≡ true → (a ≡ true) × (b ≡ true)
-both true true e = (refl, refl)
-both true false e = (refl, e)
-both false b e = let never : ⊥ = cc in absurd never
-
 -- a decimal text is a numeral that begins with no 0, or is 0
 pub decimal_plain : (text : List ℕ) → is_decimal text ≡ true → Plain text
 decimal_plain [] e = let never : ⊥ = cc in absurd never
 decimal_plain (c ∷ []) e = record { numeral = (omega arith, tested_model.to (c ∷ []) (rw e refl)); short = λ _. omega arith }
 decimal_plain (c ∷ d ∷ cs) e =
-    let parts : (not (c == 48) ≡ true) × (all_ascii_digits (c ∷ d ∷ cs) ≡ true) = both (not (c == 48)) (all_ascii_digits (c ∷ d ∷ cs)) e in
+    let parts : (not (c == 48) ≡ true) × (all_ascii_digits (c ∷ d ∷ cs) ≡ true) = and_parts (not (c == 48)) (all_ascii_digits (c ∷ d ∷ cs)) e in
     record { numeral = (omega arith, tested_model.to (c ∷ d ∷ cs) parts.1); short = λ begins. grind (arith, nat_tests) }
 
 not_zero : (c n : ℕ) → (c ≡ 48 → suc (suc n) ≤ 1) → not (c == 48) ≡ true
@@ -83,7 +79,7 @@ not_zero c n short = grind (arith, nat_tests)
 
 pub plain_decimal : (text : List ℕ) → Plain text → is_decimal text ≡ true
 plain_decimal [] p = let some = p.numeral.0 in let never : ⊥ = omega arith in absurd never
-plain_decimal (c ∷ []) p = let e = tested_model.from (c ∷ []) p.numeral.1 in (both (is_ascii_digit c) true e).0
+plain_decimal (c ∷ []) p = let e = tested_model.from (c ∷ []) p.numeral.1 in (and_parts (is_ascii_digit c) true e).0
 plain_decimal (c ∷ d ∷ cs) p =
     let digits : all_ascii_digits (c ∷ d ∷ cs) ≡ true = tested_model.from (c ∷ d ∷ cs) p.numeral.1 in
     let others : not (c == 48) ≡ true = not_zero c (length cs) p.short in

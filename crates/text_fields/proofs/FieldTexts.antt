@@ -1,9 +1,13 @@
 -- Fields that are read are the texts of what they give, and texts of fields are read as what they are of.
-use Rattle.std.proofs.Common.{◌≡◌, ◌≢◌, ℕ, zero, suc, ◌+◌, ◌*◌, ◌^◌, ◌/◌, ◌%◌, ◌<◌, ◌≤◌, ◌==◌, Bool, true, false, List, [], ◌∷◌, ◌++◌, length, get_or, Option, Some, None, refl, sym, ◌∙◌, ap, subst, arith, append_assoc}
+use Rattle.std.proofs.Common.{◌≡◌, ◌≢◌, ℕ, zero, suc, ◌+◌, ◌*◌, ◌^◌, ◌/◌, ◌%◌, ◌<◌, ◌≤◌, ◌==◌, Bool, true, false, List, [], ◌∷◌, ◌++◌, length, get_or, Option, Some, None, refl, sym, decimal, ◌∙◌, ap, subst, arith, append_assoc}
 use Rattle.std.proofs.lemmas.Bool.Decides.{nat_tests}
-use Rattle.std.specs.Prelude.{option_and_then, option_map, if◌then◌else◌}
+use Rattle.std.specs.Prelude.{codes, option_and_then, option_map, if◌then◌else◌}
+use Rattle.std.specs.Str.{bytes_eq}
 use Rattle.text_fields.specs.Hex.{hex2, hex8, hex_bytes, hex_digits, hex_number, hex_text, number_after}
-use Rattle.text_fields.specs.Fields.{byte_of, no_more, then_field, word_of}
+use Rattle.text_fields.specs.Fields.{bool_of, bool_text, byte_of, no_more, only_word, then_field, word_of}
+use Rattle.text_fields.specs.Decimal.{decimal_is, decimal_number}
+use Rattle.text_fields.proofs.DecimalFacts.{decimal_is_text, decimal_read}
+use Rattle.text_fields.proofs.Found.{equal, mapped, same_number, same_word}
 use Rattle.text_fields.proofs.HexFacts.{digits_after, number_back, length-hex_digits}
 
 -- a field was read, and what is behind it
@@ -37,6 +41,11 @@ done_by a b fs false e h = cc
 pub is_done : {A : Type 0} (a b : A) (fs : List (List ℕ)) → no_more a fs ≡ Some b → IsDone a b fs
 is_done a b fs h = done_by a b fs (length fs == 0) refl h
 
+-- a field that is there and gives a value
+pub then_given : {A B : Type 0} (form : List ℕ → Option A) (field : List ℕ) (fs : List (List ℕ)) (a : A) (go : A → List (List ℕ) → Option B) → form field ≡ Some a → then_field form (field ∷ fs) go ≡ go a fs
+unfolding then_field
+then_given form field fs a go h = ap (option_and_then (λ b. go b fs)) h
+
 number_is : (k : ℕ) (text : List ℕ) (n : ℕ) (t : Bool) → (length text == k) ≡ t → ◌≡◌ {A = Option ℕ} (if t then number_after 0 text else None) (Some n) → text ≡ hex_digits k n
 unfolding hex_digits
 number_is k text n true e h =
@@ -66,6 +75,47 @@ word_read n small = number_read 8 n (omega arith)
 pub byte_read : (n : ℕ) → n < 2 ^ 8 → byte_of (hex2 n) ≡ Some n
 unfolding hex2
 byte_read n small = number_read 2 n (omega arith)
+
+-- ---- a word and no more
+
+pub only_word_is : (fs : List (List ℕ)) (n : ℕ) → only_word fs ≡ Some n → fs ≡ hex8 n ∷ []
+unfolding only_word
+only_word_is fs n h =
+    let f = has_field word_of fs (λ m fs. no_more m fs) n h in
+    let d = is_done f.value n f.others f.after in
+    f.begins ∙ ap (λ gs. f.field ∷ gs) d.none ∙ ap (λ l. l ∷ []) (word_is f.field f.value f.gives ∙ ap hex8 d.same)
+
+pub only_word_read : (n : ℕ) → n < 2 ^ 32 → only_word (hex8 n ∷ []) ≡ Some n
+unfolding only_word
+only_word_read n small = then_given word_of (hex8 n) [] n (λ m fs. no_more m fs) (word_read n small)
+
+-- ---- truths
+
+bool_by : (field : List ℕ) (ones noughts : Bool) (b : Bool) → bytes_eq field (codes "1") ≡ ones → bytes_eq field (codes "0") ≡ noughts
+    → ◌≡◌ {A = Option Bool} (if ones then Some true else if noughts then Some false else None) (Some b) → field ≡ bool_text b
+bool_by field true noughts true e f h = same_word field (codes "1") e
+bool_by field true noughts false e f h = cc
+bool_by field false true false e f h = same_word field (codes "0") f
+bool_by field false true true e f h = cc
+bool_by field false false b e f h = cc
+
+pub bool_is : (field : List ℕ) (b : Bool) → bool_of field ≡ Some b → field ≡ bool_text b
+bool_is field b h = bool_by field (bytes_eq field (codes "1")) (bytes_eq field (codes "0")) b refl refl h
+
+pub bool_read : (b : Bool) → bool_of (bool_text b) ≡ Some b
+bool_read true = refl
+bool_read false = refl
+
+-- ---- the decimal text of a number that is known
+
+pub number_told : (field : List ℕ) (n : ℕ) → n < 2 ^ 64 → decimal_is n field ≡ Some true → field ≡ decimal n
+number_told field n small h =
+    let m : (k : ℕ) × (decimal_number field ≡ Some k) × ((k == n) ≡ true) = mapped (λ k. k == n) (decimal_number field) true h in
+    let same : m.0 ≡ n = equal m.0 n m.2 in
+    decimal_is_text field m.0 (omega arith) m.1 ∙ ap decimal same
+
+pub number_written : (n : ℕ) → n < 2 ^ 64 → decimal_is n (decimal n) ≡ Some true
+number_written n small = ap (option_map (λ m. m == n)) (decimal_read n small) ∙ ap Some (same_number n)
 
 -- ---- bytes
 

@@ -1,6 +1,9 @@
+pub mod Cutting
 pub mod DecimalFacts
 pub mod FieldFacts
 pub mod FieldTexts
+pub mod Found
 pub mod HexFacts
+pub mod LastOnes
 pub mod LineFacts
 pub mod Splitting

@@ -1,5 +1,6 @@
 -- Texts of lines, each ended by one byte 0A: the first line that is refused, and what the lines before it make.
-use Rattle.std.specs.Prelude.{◌≡◌, ℕ, ◌+◌, ◌==◌, ◌&&◌, Bool, List, [], ◌∷◌, length, Result, Ok, Err, if◌then◌else◌}
+use Rattle.std.specs.Prelude.{◌≡◌, ℕ, ◌+◌, ◌-◌, ◌==◌, ◌&&◌, Bool, true, List, [], ◌∷◌, length, take, drop, position, slice_get, Option, None, Some, option_map, Result, Ok, Err, if◌then◌else◌}
+use Rattle.std.specs.Option.{option_map_or}
 use Rattle.std.specs.List.{slice_split}
 use Rattle.text_fields.specs.declared.line_fault.LineFault.{LineFault}
 use Rattle.text_fields.specs.declared.line_fault.LineRefusal.{LineRefusal}
@@ -14,6 +15,10 @@ lines text = slice_split (λ b. b == 10) text
 -- the fields of a line, which single spaces separate
 unfoldable pub fields : List ℕ → List (List ℕ)
 fields line = slice_split (λ b. b == 32) line
+
+-- what stands before the first of these bytes and what behind it, where there is one
+abbrev pub cut_at : ℕ → List ℕ → Option (List ℕ × List ℕ)
+cut_at separator text = option_map (λ at. (take at text, drop (at + 1) text)) (position (λ b. b == separator) text)
 
 -- a kind of text: what a whole line makes of what was read before it, or the kind of its fault; and whether the text is ended
 pub record Grammar (S : Type 0) : Type 0 where
@@ -44,6 +49,22 @@ CONTENT = 6
 
 abbrev pub END : ℕ
 END = 7
+
+-- what holds, or a fault of this kind
+abbrev pub demand : {A : Type 0} → Bool → ℕ → Result A ℕ → Result A ℕ
+demand holds kind go = if holds then go else Err kind
+
+-- what comes of what was found, or a fault of this kind where nothing was
+abbrev pub or_fault : {A B : Type 0} → ℕ → Option A → (A → Result B ℕ) → Result B ℕ
+or_fault kind None go = Err kind
+or_fault kind (Some found) go = go found
+
+-- whether an element passes a test with the last one of a list, where that has one
+abbrev pub last_of : {X : Type 0} → List X → Option X
+last_of xs = slice_get xs (length xs - 1)
+
+abbrev pub follows_last : {X Y : Type 0} → (X → Y → Bool) → List X → Y → Bool
+follows_last test xs y = option_map_or (λ last. test last y) (last_of xs) true
 
 abbrev pub end_fault : ℕ → LineFault
 end_fault line = record { line = line; kind = END }

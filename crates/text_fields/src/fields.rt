@@ -1,5 +1,5 @@
 ghost use Rattle.std.specs.Prelude.{◌≡◌, ◌∷◌, [], MatchOption, length, ◌==◌};
-ghost use Rattle.text_fields.specs.Fields.{Lacks, Reads, byte_of, word_of};
+ghost use Rattle.text_fields.specs.Fields.{Lacks, Reads, byte_of, only_word, word_of};
 ghost use Rattle.text_fields.specs.Lines.{fields};
 
 use crate::{parse_hex2, parse_hex8, split_field};
@@ -71,6 +71,15 @@ impl<'a> Fields<'a> {
         ensures { MatchOption result (Lacks word_of self.old) (λ n. Reads word_of self.old n self.new) }
     {
         parse_hex8(self.next_field()?)
+    }
+
+    /// The only field's word, where there is no other and eight digits write one.
+    #[tactic(auto, unfolding(crate::specs::Fields::only_word), using(crate::proofs::FieldFacts::then_reads, crate::proofs::FieldFacts::then_lacks))]
+    pub fn only_word(mut self) -> Option<u32>
+        ensures { result ≡ only_word self.entry }
+    {
+        let n = self.next_word()?;
+        if self.is_done() { Some(n) } else { None }
     }
 
     /// What is left of the line, where a field is left.

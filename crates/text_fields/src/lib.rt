@@ -15,9 +15,11 @@ pub use fields::Fields;
 pub use line_fault::{
     CONTENT, COUNT, END, FIELD, HEADER, LineFault, LineRefusal, ORDER, TextFault, WORD,
 };
-pub use lines::{LineReader, read_lines, split_field, split_line};
+pub use lines::{LineReader, cut_at, read_lines, split_field, split_line};
 pub use readers::{
-    decimal_is, parse_decimal, parse_hex_bytes, parse_hex2, parse_hex8, parse_hex8_any_case,
-    parse_number,
+    decimal_is, parse_bool, parse_decimal, parse_hex_bytes, parse_hex2, parse_hex8,
+    parse_hex8_any_case, parse_number,
 };
-pub use writers::{hex_digit, push_bytes, push_decimal, push_hex_bytes, push_hex2, push_hex8};
+pub use writers::{
+    hex_digit, push_bool, push_bytes, push_decimal, push_hex_bytes, push_hex2, push_hex8,
+};

@@ -1,6 +1,6 @@
-ghost use Rattle.std.specs.Prelude.{◌≡◌, ◌<◌, ◌==◌, ◌∷◌, [], length, position, false, Ok, IfSome, MatchOption, MatchResult};
+ghost use Rattle.std.specs.Prelude.{◌≡◌, ◌<◌, ◌==◌, ◌∷◌, [], length, position, false, Ok, IfSome, MatchOption, MatchResult, option_map};
 ghost use Rattle.std.specs.List.{slice_split};
-ghost use Rattle.text_fields.specs.Lines.{Grammar, IsFaultOf, IsRefusalOf, end_fault, fields, lines, read_text};
+ghost use Rattle.text_fields.specs.Lines.{Grammar, IsFaultOf, IsRefusalOf, cut_at, end_fault, fields, lines, read_text};
 
 use crate::{END, LineFault, LineRefusal, TextFault};
 use std::alloc::Global;
@@ -25,8 +25,9 @@ fn place_of(text: &[u8], byte: u8) -> Option<usize>
     text.iter().position(|b| *b == byte)
 }
 
-// What stands before the first of these bytes and what behind it, where there is one.
-fn split_once(text: &[u8], separator: u8) -> Option<(&[u8], &[u8])>
+/// What stands before the first of these bytes and what behind it, where there is one.
+pub fn cut_at(separator: u8, text: &[u8]) -> Option<(&[u8], &[u8])>
+    ensures cut { option_map (λ p. (p.0.now, p.1.now)) result ≡ cut_at separator text.now }
     ensures parts { MatchOption result (slice_split (λ b. b == separator) text.now ≡ text.now ∷ []) (λ p. slice_split (λ b. b == separator) text.now ≡ p.0.now ∷ slice_split (λ b. b == separator) p.1.now) }
     ensures shorter { IfSome result (λ p. length p.1.now < length text.now) }
 {
@@ -40,7 +41,7 @@ pub fn split_line(text: &[u8]) -> Option<(&[u8], &[u8])>
     ensures parts { MatchOption result (lines text.now ≡ text.now ∷ []) (λ p. lines text.now ≡ p.0.now ∷ lines p.1.now) }
     ensures shorter { IfSome result (λ p. length p.1.now < length text.now) }
 {
-    split_once(text, b'\n')
+    cut_at(b'\n', text)
 }
 
 /// The first field of a line and what stands behind its space; None where the line is its only field.
@@ -48,7 +49,7 @@ pub fn split_line(text: &[u8]) -> Option<(&[u8], &[u8])>
 pub fn split_field(line: &[u8]) -> Option<(&[u8], &[u8])>
     ensures { MatchOption result (fields line.now ≡ line.now ∷ []) (λ p. fields line.now ≡ p.0.now ∷ fields p.1.now) }
 {
-    split_once(line, b' ')
+    cut_at(b' ', line)
 }
 
 /// Reads a text from its first line on, and gives what its lines make; refuses it exactly at its first bad line.

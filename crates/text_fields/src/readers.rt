@@ -1,9 +1,10 @@
-ghost use Rattle.std.specs.Prelude.{◌≡◌, ℕ, Some, ◌<◌, ◌≤◌, ◌^◌, ◌↔◌, ◌==◌, length, option_map, IfOk, IfSome, IfNone, SomeIff, decimal};
+ghost use Rattle.std.specs.Prelude.{◌≡◌, ℕ, Some, ◌<◌, ◌≤◌, ◌^◌, ◌↔◌, length, option_map, IfOk, IfSome, IfNone, SomeIff, decimal};
 ghost use Rattle.std.specs.Char.{is_ascii_digit};
 ghost use Rattle.std.specs.List.{list_all};
 ghost use Rattle.std.specs.Str.{str_to_ascii_uppercase};
 ghost use Rattle.std.specs.Str.Parse.{IsNumeral, digits_value};
-ghost use Rattle.text_fields.specs.Decimal.{decimal_below, decimal_number, is_decimal};
+ghost use Rattle.text_fields.specs.Decimal.{decimal_below, decimal_is, is_decimal};
+ghost use Rattle.text_fields.specs.Fields.{bool_of};
 ghost use Rattle.text_fields.specs.Hex.{digit_number, hex2, hex8, hex_bytes, hex_number, hex_text, IsHexText, number_after};
 
 use bit_words::NoMemory;
@@ -129,7 +130,7 @@ pub fn parse_decimal(text: &[u8]) -> Option<u64>
 
 /// Whether a decimal text, which may be of any length, writes this number; None for any other text.
 pub fn decimal_is(text: &[u8], n: u64) -> Option<bool>
-    ensures { result ≡ option_map (λ m. m == n) (decimal_number text.now) }
+    ensures { result ≡ decimal_is n text.now }
 {
     if !is_decimal(text) {
         return None;
@@ -137,6 +138,19 @@ pub fn decimal_is(text: &[u8], n: u64) -> Option<bool>
     match decimal_value(text) {
         Some(m) => Some(m == n),
         None => Some(false),
+    }
+}
+
+/// The truth that a digit 0 or 1 writes; None for any other text.
+pub fn parse_bool(text: &[u8]) -> Option<bool>
+    ensures { result ≡ bool_of text.now }
+{
+    if text == b"1".as_slice() {
+        Some(true)
+    } else if text == b"0".as_slice() {
+        Some(false)
+    } else {
+        None
     }
 }
 

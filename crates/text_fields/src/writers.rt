@@ -1,4 +1,5 @@
 ghost use Rattle.std.specs.Prelude.{◌≡◌, ◌<◌, ◌/◌, ◌%◌, ◌++◌, decimal, OnOk, OnErr};
+ghost use Rattle.text_fields.specs.Fields.{bool_text};
 ghost use Rattle.text_fields.specs.Hex.{hex_digit, hex2, hex8, hex_text};
 
 use bit_words::NoMemory;
@@ -21,6 +22,14 @@ pub fn push_bytes(out: &mut Vec<u8>, bytes: &[u8]) -> Result<(), NoMemory>
 {
     out.extend_from_slice(bytes)?;
     Ok(())
+}
+
+/// Appends the digit 1 of a truth, or 0.
+pub fn push_bool(out: &mut Vec<u8>, b: bool) -> Result<(), NoMemory>
+    ensures ok { OnOk result (out.new.items ≡ out.old.items ++ bool_text b) }
+    ensures err { OnErr result (out.new.items ≡ out.old.items) }
+{
+    push_bytes(out, if b { b"1" } else { b"0" })
 }
 
 /// Appends the two upper-case hexadecimal digits of a byte.

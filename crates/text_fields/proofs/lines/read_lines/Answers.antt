@@ -1,9 +1,5 @@
-use Rattle.std.proofs.Common.{rules, ◌≡◌, ◌==◌, ◌∙◌, sym, refl, arith, false, length, true}
-use Rattle.text_fields.specs.Lines.{IsFaultOf, read_text}
-use Rattle.text_fields.specs.declared.line_fault.LineRefusal.{LineRefusal}
-use Rattle.text_fields.specs.declared.line_fault.LineRefusal.TheVariants.{Kind}
-use Rattle.text_fields.specs.declared.line_fault.TextFault.{TextFault}
-use Rattle.text_fields.proofs.LineFacts.{line_read, line_after_end, line_refused, line_taken, read_last, stops_early, stops_in_line}
+use Rattle.std.proofs.Common.{◌≡◌, ◌==◌, ◌∙◌, sym, arith, false, length, true}
+use Rattle.text_fields.proofs.LineFacts.{line_after_end, line_refused, line_taken, read_last, stops_early, stops_in_line}
 use Rattle.text_fields.proofs.lines.read_lines.Goals as goal
 
 pub returns-then-is_ended : goal.returns-then-is_ended

@@ -1,5 +1,4 @@
-use Rattle.std.proofs.Common.{rules, arith, ◌≡◌, ◌<◌, ◌^◌, length, true, sym, ◌∙◌, refl}
-use Rattle.text_fields.specs.Decimal.{is_decimal}
+use Rattle.std.proofs.Common.{rules, ◌<◌, ◌^◌, sym, refl}
 use Rattle.text_fields.proofs.DecimalFacts.{no_decimal_number, value_is, value_is_not}
 use Rattle.text_fields.proofs.readers.decimal_is.Goals as goal
 

@@ -1,4 +1,4 @@
-use Rattle.std.proofs.Common.{rules, arith, ◌≡◌, ◌<◌, ◌≤◌, length, get_or, sym, ◌∙◌, refl, Option, Some, None, ℕ}
+use Rattle.std.proofs.Common.{sym, refl}
 use Rattle.text_fields.proofs.DecimalFacts.{no_decimal_number, value_below, not_decimal, decimal_plain, reads_decimal}
 use Rattle.text_fields.proofs.readers.parse_decimal.Goals as goal
 

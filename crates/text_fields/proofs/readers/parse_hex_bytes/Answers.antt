@@ -1,7 +1,7 @@
 use Rattle.std.proofs.Common.{rules, arith, ap, take, ℕ, Option, None, ◌≤◌, ◌≡◌, ◌<◌, ◌++◌, length, Some, refl, sym, ◌∙◌, ◌^◌}
 use Rattle.std.proofs.lemmas.List.{take-append-drop, append_assoc, append-nil}
 use Rattle.text_fields.specs.Hex.{hex2, hex_bytes, hex_number, hex_text}
-use Rattle.text_fields.proofs.HexFacts.{hex_text_parts, hex_text-push, with_none, with_bytes, with_one_more, pair_read, no_pair, nothing_left, odd_left}
+use Rattle.text_fields.proofs.HexFacts.{hex_text_parts, hex_text-push, with_none, with_bytes, with_one_more, no_pair, nothing_left, odd_left}
 use Rattle.text_fields.proofs.readers.parse_hex_bytes.Goals as goal
 
 pub loop-rest-init : goal.loop-rest-init

@@ -4,7 +4,8 @@ use Rattle.std.specs.Prelude.{not, ◌&&◌}
 use Rattle.std.specs.Option.{option_map}
 use Rattle.std.specs.List.{list_all, position_or_len}
 use Rattle.std.proofs.lemmas.Bool.Decides.{nat_tests}
-use Rattle.table_check.specs.Fields.{cut_at}
+use Rattle.std.proofs.lemmas.Bool.{and_parts}
+use Rattle.text_fields.specs.Lines.{cut_at}
 
 abbrev is_byte : ℕ → ℕ → Bool
 is_byte c b = b == c
@@ -48,10 +49,6 @@ cut-is c text p h = cut_by c (position_or_len (is_byte c) text) text p (nat_lt (
 abbrev pub lacks : ℕ → List ℕ → Bool
 lacks c text = list_all (λ b. not (is_byte c b)) text
 
-both : (s t : Bool) → (s && t) ≡ true → (s ≡ true) × (t ≡ true)
-both true t e = (refl, e)
-both false t e = absurd (cc)
-
 byte-same : (c : ℕ) → is_byte c c ≡ true
 byte-same c = grind (arith, nat_tests)
 
@@ -65,13 +62,13 @@ one-before n = omega arith
 place-there : (c : ℕ) (first rest : List ℕ) → lacks c first ≡ true → position_or_len (is_byte c) (first ++ c ∷ rest) ≡ length first
 place-there c [] rest e = ap (λ t. cond (not t) (1 + position_or_len (is_byte c) rest) 0) (byte-same c)
 place-there c (b ∷ bs) rest e =
-    let (own, others) = both (not (is_byte c b)) (lacks c bs) e in
+    let (own, others) = and_parts (not (is_byte c b)) (lacks c bs) e in
     ap (λ t. cond t (1 + position_or_len (is_byte c) (bs ++ c ∷ rest)) 0) own ∙ ap (λ n. 1 + n) (place-there c bs rest others) ∙ one-before (length bs)
 
 place-nowhere : (c : ℕ) (text : List ℕ) → lacks c text ≡ true → position_or_len (is_byte c) text ≡ length text
 place-nowhere c [] e = refl
 place-nowhere c (b ∷ bs) e =
-    let (own, others) = both (not (is_byte c b)) (lacks c bs) e in
+    let (own, others) = and_parts (not (is_byte c b)) (lacks c bs) e in
     ap (λ t. cond t (1 + position_or_len (is_byte c) bs) 0) own ∙ ap (λ n. 1 + n) (place-nowhere c bs others) ∙ one-before (length bs)
 
 take-front : (first rest : List ℕ) → take (length first) (first ++ rest) ≡ first
