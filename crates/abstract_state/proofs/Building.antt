@@ -29,14 +29,7 @@ use Rattle.abstract_state.specs.State.{AreSmall, IsSmall, IsWellState, Known}
 use Rattle.abstract_state.specs.Building.{HasImageBytes, built, is_dirty_of, is_fact_of, is_note, is_small, is_state, parts_of, plain_of, registers_in, registers_of, truths_in, truths_of}
 use Rattle.abstract_state.specs.Laws.{BuiltStatesArePlain, PlainStatesAreBuilt}
 use Rattle.abstract_state.proofs.Keeping.{each-register}
-
-both : (s t : Bool) → (s && t) ≡ true → (s ≡ true) × (t ≡ true)
-both true t e = (refl, e)
-both false t e = absurd (cc)
-
-both_true : (s t : Bool) → s ≡ true → t ≡ true → (s && t) ≡ true
-both_true true t e f = f
-both_true false t e f = e
+use Rattle.std.proofs.lemmas.Bool.{and_parts, and_from}
 
 -- ---- registers and flags in lists
 
@@ -97,11 +90,11 @@ note-test (Some (Word o c)) h = lies-inside (interval_at (In Stack) o (pos 4)) (
 module _ {D : Type 0} (d : Values D) where
   hold-of : (blocks : List Counted) (v : D) → may_hold d blocks B32 v ≡ true → MayHold d blocks B32 v
   hold-of blocks v e =
-      let (fits, counted) = both (fits_width d B32 v) (is_counted_value d blocks v) e in
+      let (fits, counted) = and_parts (fits_width d B32 v) (is_counted_value d blocks v) e in
       record { fits = fits-of d B32 v fits; counted = count-of blocks (named (d.reach v)) counted }
 
   may-hold : (blocks : List Counted) (v : D) → MayHold d blocks B32 v → may_hold d blocks B32 v ≡ true
-  may-hold blocks v h = both_true (fits_width d B32 v) (is_counted_value d blocks v) (fits-width d B32 v h.fits) (has-count blocks (named (d.reach v)) h.counted)
+  may-hold blocks v h = and_from (fits_width d B32 v) (is_counted_value d blocks v) (fits-width d B32 v h.fits) (has-count blocks (named (d.reach v)) h.counted)
 
   -- ---- what may be built
 
@@ -118,10 +111,10 @@ module _ {D : Type 0} (d : Values D) where
       let R = list_all (may_hold d s.blocks B32) s.regs in
       let S = list_all (λ (c : Counted). is_small c.region) s.blocks in
       let T = list_all (is_dirty_of image) s.dirty in
-      let (well, a) = both (are_well d (parts_of s)) (list_all (is_fact_of image) s.facts && (T && (R && S))) e in
-      let (facts, b) = both (list_all (is_fact_of image) s.facts) (T && (R && S)) a in
-      let (dirty, c) = both T (R && S) b in
-      let (regs, small) = both R S c in
+      let (well, a) = and_parts (are_well d (parts_of s)) (list_all (is_fact_of image) s.facts && (T && (R && S))) e in
+      let (facts, b) = and_parts (list_all (is_fact_of image) s.facts) (T && (R && S)) a in
+      let (dirty, c) = and_parts T (R && S) b in
+      let (regs, small) = and_parts R S c in
       record {
         well = well-of d (parts_of s) well;
         facts = facts;
@@ -151,7 +144,7 @@ module _ {D : Type 0} (d : Values D) where
   chosen : (image : Image) (s : StateData D) (g : Regs D) (t : Truths) (k : Known D) (b : Bool) → (is_state d image s && is_note s.note) ≡ b
       → ◌≡◌ {A = Option (Known D)} (if b then Some (record { regs = g; flags = t; note = s.note; parts = parts_of s }) else None) (Some k)
       → (is_state d image s ≡ true) × (let made : Known D = record { regs = g; flags = t; note = s.note; parts = parts_of s } in made ≡ k)
-  chosen image s g t k true e h = ((both (is_state d image s) (is_note s.note) e).0, cc)
+  chosen image s g t k true e h = ((and_parts (is_state d image s) (is_note s.note) e).0, cc)
   chosen image s g t k false e h = cc
 
   flags_by : (image : Image) (s : StateData D) (g : Regs D) (k : Known D) (t : Option Truths) → registers_of s.regs ≡ Some g → truths_of s.flags ≡ t
@@ -182,8 +175,8 @@ module _ {D : Type 0} (d : Values D) where
   registers-hold : (g : Regs D) (t : D → Bool) → ((r : ℕ) → t (register g r) ≡ true) → list_all t (registers_in g) ≡ true
   unfolding register
   registers-hold g t f =
-      both_true (t g.eax) _ (f 0) (both_true (t g.ecx) _ (f 1) (both_true (t g.edx) _ (f 2) (both_true (t g.ebx) _ (f 3)
-      (both_true (t g.esp) _ (f 4) (both_true (t g.ebp) _ (f 5) (both_true (t g.esi) _ (f 6) (both_true (t g.edi) true (f 7) refl)))))))
+      and_from (t g.eax) _ (f 0) (and_from (t g.ecx) _ (f 1) (and_from (t g.edx) _ (f 2) (and_from (t g.ebx) _ (f 3)
+      (and_from (t g.esp) _ (f 4) (and_from (t g.ebp) _ (f 5) (and_from (t g.esi) _ (f 6) (and_from (t g.edi) true (f 7) refl)))))))
 
   is-state : (image : Image) (s : Known D) → IsWellState d s → HasImageBytes image s → is_state d image (plain_of s) ≡ true
   unfolding is_state
@@ -194,13 +187,13 @@ module _ {D : Type 0} (d : Values D) where
       let T = list_all (is_dirty_of image) p.dirty in
       let hold : (r : ℕ) → may_hold d p.blocks B32 (register s.regs r) ≡ true = λ r. may-hold p.blocks (register s.regs r) (w.registers r) in
       let regs : R ≡ true = registers-hold s.regs (may_hold d p.blocks B32) hold in
-      both_true (are_well d (parts_of p)) (list_all (is_fact_of image) p.facts && (T && (R && S))) (are-well d (parts_of p) w.parts)
-      (both_true (list_all (is_fact_of image) p.facts) (T && (R && S)) h.facts
-      (both_true T (R && S) h.dirty
-      (both_true R S regs (all-Every (λ (c : Counted). is_small c.region) (λ (c : Counted). IsSmall c.region) p.blocks (λ c t. is-small c.region t) w.small))))
+      and_from (are_well d (parts_of p)) (list_all (is_fact_of image) p.facts && (T && (R && S))) (are-well d (parts_of p) w.parts)
+      (and_from (list_all (is_fact_of image) p.facts) (T && (R && S)) h.facts
+      (and_from T (R && S) h.dirty
+      (and_from R S regs (all-Every (λ (c : Counted). is_small c.region) (λ (c : Counted). IsSmall c.region) p.blocks (λ c t. is-small c.region t) w.small))))
 
   pub plain-built : PlainStatesAreBuilt d
   unfolding built
   plain-built image s w h =
-      let e : (is_state d image (plain_of s) && is_note s.note) ≡ true = both_true (is_state d image (plain_of s)) (is_note s.note) (is-state image s w h) (note-test s.note w.note) in
+      let e : (is_state d image (plain_of s) && is_note s.note) ≡ true = and_from (is_state d image (plain_of s)) (is_note s.note) (is-state image s w h) (note-test s.note w.note) in
       rw e refl

@@ -3,7 +3,7 @@ use Rattle.std.proofs.Common.{◌≡◌, ℕ, zero, suc, ◌+◌, ◌<◌, Bool,
 use Rattle.std.specs.Prelude.{◌&&◌, ◌||◌, ◌==◌, not, nat_lt, count_by, find, unwrap_or, int_le}
 use Rattle.std.specs.List.{list_all, list_any}
 use Rattle.std.specs.Ordering.{int_eq}
-use Rattle.std.proofs.lemmas.Bool.{or_left, or_right, or_parts}
+use Rattle.std.proofs.lemmas.Bool.{or_left, or_right, or_parts, and_from, not-true}
 use Rattle.std.proofs.lemmas.Grind.{common_steps}
 use Rattle.std.proofs.lemmas.Int.{ints}
 use Rattle.bit_words.specs.declared.width.Width.{Width}
@@ -38,13 +38,9 @@ use Rattle.abstract_state.specs.Laws.{WideningIsSound, WideningKeepsWell}
 use Rattle.abstract_state.proofs.Keeping.{each-register}
 use Rattle.abstract_state.proofs.Logic.{covers_refl}
 
-pub both : (a b : Bool) → a ≡ true → b ≡ true → (a && b) ≡ true
-both true b e f = f
-both false b e f = absurd (cc)
-
 flags_refl : (t : Truths) → covers_flags t t ≡ true
 flags_refl t =
-    both _ _ (both _ _ (both _ _ (both _ _ (both _ _ (both _ _ (covers_refl t.carry) (covers_refl t.parity)) (covers_refl t.adjust)) (covers_refl t.zero)) (covers_refl t.sign)) (covers_refl t.overflow)) (covers_refl t.direction)
+    and_from _ _ (and_from _ _ (and_from _ _ (and_from _ _ (and_from _ _ (and_from _ _ (covers_refl t.carry) (covers_refl t.parity)) (covers_refl t.adjust)) (covers_refl t.zero)) (covers_refl t.sign)) (covers_refl t.overflow)) (covers_refl t.direction)
 
 pub nat-refl : (a : ℕ) → (a == a) ≡ true
 nat-refl a = grind (arith, common_steps)
@@ -57,8 +53,8 @@ le-refl a = grind (arith, ints, common_steps)
 
 note_refl : (n : Option Note) → covers_note n n ≡ true
 note_refl None = refl
-note_refl (Some (notes.Register r c)) = both _ _ (nat-refl r) (nat-refl c)
-note_refl (Some (notes.Word o c)) = both _ _ (int-refl o) (nat-refl c)
+note_refl (Some (notes.Register r c)) = and_from _ _ (nat-refl r) (nat-refl c)
+note_refl (Some (notes.Word o c)) = and_from _ _ (int-refl o) (nat-refl c)
 
 -- ---- lists in which each element has its own
 
@@ -71,21 +67,17 @@ any-self q own (x ∷ xs) = (
 
 all-from : {X : Type 0} (p : X → Bool) (xs : List X) → Every (λ x. p x ≡ true) xs → list_all p xs ≡ true
 all-from p [] h = refl
-all-from p (x ∷ xs) h = both (p x) (list_all p xs) h.0 (all-from p xs h.1)
+all-from p (x ∷ xs) h = and_from (p x) (list_all p xs) h.0 (all-from p xs h.1)
 
 lies-refl : (r : Dirty) → lies_in_one r r ≡ true
-lies-refl r = both _ _ (same_area-refl r.area) (both _ _ (le-refl r.low) (le-refl (r.low +ℤ r.size)))
+lies-refl r = and_from _ _ (same_area-refl r.area) (and_from _ _ (le-refl r.low) (le-refl (r.low +ℤ r.size)))
 
 many-refl : (b : Bool) → (b || not b) ≡ true
 many-refl true = refl
 many-refl false = refl
 
 counts-refl : (c : Counted) → counts_below c c ≡ true
-counts-refl c = both _ _ (same_region-refl c.region) (many-refl c.many)
-
-not-false : (b : Bool) → not b ≡ true → b ≡ false
-not-false true e = absurd (cc)
-not-false false e = refl
+counts-refl c = and_from _ _ (same_region-refl c.region) (many-refl c.many)
 
 found : {D : Type 0} (P : D → Type 0) (t : D → Bool) (z : D) (xs : List D) → P z → Every P xs → P (unwrap_or (find t xs) z)
 found P t z [] p h = p
@@ -128,11 +120,11 @@ module _ {D : Type 0} (d : Values D) (l : IsLawful d) (k : ℕ) (seen : List (Ho
   registers-above : (g : Regs D) → covers_registers d (widened_registers d k seen g) g ≡ true
   unfolding register with_register
   registers-above g =
-      both _ _ (both _ _ (both _ _ (both _ _ (both _ _ (both _ _ (both _ _ (value-above (Register 0) g.eax) (value-above (Register 1) g.ecx)) (value-above (Register 2) g.edx)) (value-above (Register 3) g.ebx))
+      and_from _ _ (and_from _ _ (and_from _ _ (and_from _ _ (and_from _ _ (and_from _ _ (and_from _ _ (value-above (Register 0) g.eax) (value-above (Register 1) g.ecx)) (value-above (Register 2) g.edx)) (value-above (Register 3) g.ebx))
       (value-above (Register 4) g.esp)) (value-above (Register 5) g.ebp)) (value-above (Register 6) g.esi)) (value-above (Register 7) g.edi)
 
   fact-below : (f : Fact D) → is_below d (widened_fact d k seen f) f ≡ true
-  fact-below f = both _ _ (both _ _ (same_area-refl f.area) (both _ _ (int-refl f.low) (nat-refl (bytes_of f.w)))) (value-above (holder_of f) f.value)
+  fact-below f = and_from _ _ (and_from _ _ (same_area-refl f.area) (and_from _ _ (int-refl f.low) (nat-refl (bytes_of f.w)))) (value-above (holder_of f) f.value)
 
   facts-covered : (facts : List (Fact D)) → list_all (covers_fact d facts) (widened_facts d k seen facts) ≡ true
   facts-covered facts =
@@ -142,7 +134,7 @@ module _ {D : Type 0} (d : Values D) (l : IsLawful d) (k : ℕ) (seen : List (Ho
 
   parts-covered : (h : PartsHeld D) → covers_held d (record h { facts = widened_facts d k seen h.facts }) h ≡ true
   parts-covered h =
-      both _ _ (facts-covered h.facts) (both _ _ (all-from (lies_in h.dirty) h.dirty (any-self lies_in_one lies-refl h.dirty)) (all-from (covers_count h.blocks) h.blocks (any-self counts_below counts-refl h.blocks)))
+      and_from _ _ (facts-covered h.facts) (and_from _ _ (all-from (lies_in h.dirty) h.dirty (any-self lies_in_one lies-refl h.dirty)) (all-from (covers_count h.blocks) h.blocks (any-self counts_below counts-refl h.blocks)))
 
   -- ---- well
 
@@ -173,7 +165,7 @@ module _ {D : Type 0} (d : Values D) (l : IsLawful d) (k : ℕ) (seen : List (Ho
       let keep = λ (f : Fact D). not (d.rank f.value == 0) in
       let raised = map (widened_fact d k seen) facts in
       let WellIf : Fact D → Type 0 = λ f. (d.rank f.value == 0) ≡ false → IsWellFact d blocks f in
-      Every-both (λ f. keep f ≡ true) WellIf (IsWellFact d blocks) (filter keep raised) (λ f q r. r (not-false (d.rank f.value == 0) q)) (Every-kept keep raised)
+      Every-both (λ f. keep f ≡ true) WellIf (IsWellFact d blocks) (filter keep raised) (λ f q r. r (not-true (d.rank f.value == 0) q)) (Every-kept keep raised)
       (Every-filter WellIf keep raised (Every-map (IsWellFact d blocks) WellIf (widened_fact d k seen) facts (λ f q. fact-well blocks f q) h))
 
   pub parts-well : (h : PartsHeld D) → IsWell d h → IsWell d (record h { facts = widened_facts d k seen h.facts })
@@ -195,7 +187,7 @@ module _ {D : Type 0} (d : Values D) (l : IsLawful d) (k : ℕ) (seen : List (Ho
 module _ {D : Type 0} (d : Values D) (l : IsLawful d) where
   pub widening-is_sound : WideningIsSound d
   unfolding covers_state widened_state
-  widening-is_sound k seen s well = both _ _ (registers-above d l k seen s.regs) (both _ _ (flags_refl s.flags) (both _ _ (note_refl s.note) (parts-covered d l k seen s.parts)))
+  widening-is_sound k seen s well = and_from _ _ (registers-above d l k seen s.regs) (and_from _ _ (flags_refl s.flags) (and_from _ _ (note_refl s.note) (parts-covered d l k seen s.parts)))
 
   pub widening-keeps_well : WideningKeepsWell d
   unfolding widened_state

@@ -27,6 +27,7 @@ use Rattle.partitioned_memory.specs.Describes.{IsSpread, StartsAt, is_byte_of, n
 use Rattle.partitioned_memory.specs.Held.{PartsHeld, after_exact, known_byte, nothing_held}
 use Rattle.partitioned_memory.proofs.FactsKept.{exact-keeps}
 use Rattle.partitioned_memory.proofs.Spread.{spread-apart}
+use Rattle.abstract_state.proofs.Covering.{first}
 use Rattle.abstract_state.specs.Describes.{Describes, Fits, IsMappedAt, IsRegionAt, byte_in, mappings}
 use Rattle.abstract_state.specs.State.{start_state}
 use Rattle.abstract_state.specs.Laws.{StartsAreDescribed}
@@ -104,10 +105,6 @@ held_byte unset segment held a holds inside none =
       | inl unset_there ↦ absurd (false≢true (sym (ap (λ n. is_in_ranges n unset) address ∙ none) ∙ unset_there))
       | inr same ↦ same ∙ ap (λ n. slice_get segment.bytes (a - n)) (sym low)
     ]
-  where
-    first : (x y : Bool) → (x && y) ≡ true → x ≡ true
-    first true y e = refl
-    first false y e = e
 
 same_place : (unset : List Span) (segment held : Range) (a : ℕ) → HoldsLoaded unset segment held → has a held ≡ has a segment
 same_place unset segment held a holds =

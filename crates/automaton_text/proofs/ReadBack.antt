@@ -40,7 +40,7 @@ use Rattle.automaton_text.proofs.ClearTexts.{clear_both, clear_code, is_clear, i
 use Rattle.automaton_text.proofs.FieldsTold.{import_text, row_list, suffix_list}
 use Rattle.automaton_text.proofs.Reading.{text_back}
 use Rattle.automaton_text.proofs.Told.{edge_whole, end_whole, mark_whole, reading}
-use Rattle.std.proofs.lemmas.Bool.{and_parts, and_from}
+use Rattle.std.proofs.lemmas.Bool.{and_parts, and_from, not-true}
 use Rattle.text_fields.proofs.Found.{word_same}
 use Rattle.text_fields.proofs.LastOnes.{last_of_more}
 
@@ -72,11 +72,7 @@ word_small : (n : ℕ) → is_word n ≡ true → n < 2 ^ 32
 word_small n e = grind (arith, nat_tests)
 
 pub clear_is : (text : List ℕ) → is_clear text ≡ true → All (λ b. (b == 10) ≡ false) text
-clear_is text e k d below = not_line (get_or text k d == 10) (AllPass-from_list_all (λ b. not (b == 10)) text e k d below)
-  where
-    not_line : (t : Bool) → not t ≡ true → t ≡ false
-    not_line true h = cc
-    not_line false h = refl
+clear_is text e k d below = not-true (get_or text k d == 10) (AllPass-from_list_all (λ b. not (b == 10)) text e k d below)
 
 -- the first field of a line, whatever is behind it
 fields_first : (first rest : List ℕ) → is_plain first ≡ true → fields (first ++ (32 ∷ rest)) ≡ first ∷ fields rest

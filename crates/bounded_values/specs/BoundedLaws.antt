@@ -23,6 +23,7 @@ use Rattle.bounded_values.specs.Order.{same_value, is_within, bounded_leq, bound
 use Rattle.bounded_values.specs.Rules.{by_places, bounded_eval}
 use Rattle.bounded_values.specs.RuleLaws.{by_places-stands, by_places-named, by_places-number}
 use Rattle.bounded_values.specs.contracts.value.BoundedPartialEq.TheImpl as equality
+use Rattle.std.proofs.lemmas.Bool.{and_parts, and_from}
 
 -- ---- equality
 
@@ -34,17 +35,9 @@ same_inside : (r s : Region) → same_value (Inside r) (Inside s) ≡ same_regio
 unfolding same_value same_region
 same_inside r s = refl
 
-both : (s t : Bool) → (s && t) ≡ true → (s ≡ true) × (t ≡ true)
-both true t e = (refl, e)
-both false t e = absurd (cc)
-
 either : (s t : Bool) → (s || t) ≡ true → (s ≡ true) ⊎ (t ≡ true)
 either true t e = inl refl
 either false t e = inr e
-
-both_true : (s t : Bool) → s ≡ true → t ≡ true → (s && t) ≡ true
-both_true true t e f = f
-both_true false t e f = e
 
 second_true : (s t : Bool) → t ≡ true → (s || t) ≡ true
 second_true true t e = refl
@@ -56,13 +49,13 @@ first_true false t e = absurd (cc)
 
 exact-is : (r s : Region) (o q : ℤ) → same_value (Exact r o) (Exact s q) ≡ true → Exact r o ≡ Exact s q
 exact-is r s o q e =
-    let (f, g) = both (same_region r s) (int_eq o q) (sym (same_exact r s o q) ∙ e) in
+    let (f, g) = and_parts (same_region r s) (int_eq o q) (sym (same_exact r s o q) ∙ e) in
     let same = same_region-is r s f in
     let equal : o ≡ q = (Decides-int_eq o q).0 g in
     cc
 
 exact-refl : (r : Region) (o : ℤ) → same_value (Exact r o) (Exact r o) ≡ true
-exact-refl r o = same_exact r r o o ∙ both_true (same_region r r) (int_eq o o) (same_region-refl r) ((Decides-int_eq o o).1 refl)
+exact-refl r o = same_exact r r o o ∙ and_from (same_region r r) (int_eq o o) (same_region-refl r) ((Decides-int_eq o o).1 refl)
 
 pub same_value-is : (a b : Bounded) → same_value a b ≡ true → a ≡ b
 unfolding same_value
@@ -148,7 +141,7 @@ within-stands p r o x e h = let (room, low, high) = inside-tells r o e in within
 within : (p : Places) (a b : Bounded) (x : ℕ) → is_within a b ≡ true → bounded_stands a p x → bounded_stands b p x
 within p a Any x e h = tt
 within p (Exact r o) (Inside s) x e h =
-    let (f, g) = both (same_region r s) (is_inside s o) e in
+    let (f, g) = and_parts (same_region r s) (is_inside s o) e in
     within-stands p s o x g (subst (λ t. IsAt p t o x) (same_region-is r s f) h)
 within p a b x e h = absurd (cc)
 
@@ -185,7 +178,7 @@ raised : (v : Bounded) → 0 < bounded_rank v → bounded_leq v (bounded_raise v
 raised (Number n) h = second_true (same_value (Number n) Any) true refl
 raised (Exact r o) h =
     chosen (λ v. bounded_leq (Exact r o) v ≡ true) (is_inside r o) (Inside r) Any
-    (λ e. second_true (same_value (Exact r o) (Inside r)) (is_within (Exact r o) (Inside r)) (both_true (same_region r r) (is_inside r o) (same_region-refl r) e))
+    (λ e. second_true (same_value (Exact r o) (Inside r)) (is_within (Exact r o) (Inside r)) (and_from (same_region r r) (is_inside r o) (same_region-refl r) e))
     (second_true (same_value (Exact r o) Any) true refl)
 raised (Inside r) h = second_true (same_value (Inside r) Any) true refl
 raised Any h = absurd (omega arith)

@@ -22,6 +22,7 @@ use Rattle.bounded_values.specs.declared.value.Bounded.TheVariants.{Number, Exac
 use Rattle.bounded_values.specs.Stands.{IsAt, IsWithin, bounded_stands, bounded_number_of, bounded_reach}
 use Rattle.bounded_values.specs.Rules.{rounded_down, unit_of, is_stack_mask, is_outside, lies_in_region, moved_place, place_plus, place_less, between, between_places, masked_at, masked_place, aligned_place, outside_place, number_and_place, apart, by_places}
 use Rattle.bounded_values.specs.NumberLaws.{add-place, add-comm, sub-place, sub-places, eq-places, mask-place, eq-apart, eq-comm}
+use Rattle.std.proofs.lemmas.Bool.{and_parts}
 
 -- ---- rules in order
 
@@ -67,14 +68,10 @@ moved-stands p Add B32 a b x y f h k = plus-stands p a b x y h k
 moved-stands p Sub B32 a b x y f h k = less-stands p a b x y f h k
 moved-stands p op w a b x y f h k = tt
 
-both : (s t : Bool) → (s && t) ≡ true → (s ≡ true) × (t ≡ true)
-both true t e = (refl, e)
-both false t e = absurd (cc)
-
 -- two places of a region with one base are places from that base
 from_one_base : (p : Places) (r s : Region) (o q : ℤ) (x y : ℕ) → (same_region r s && has_one_base r) ≡ true → IsAt p r o x → IsAt p s q y → (b : ℕ) × (x ≡ place_at b o) × (y ≡ place_at b q)
 from_one_base p r s o q x y e h k =
-    let (e0, e1) = both (same_region r s) (has_one_base r) e in
+    let (e0, e1) = and_parts (same_region r s) (has_one_base r) e in
     let same = same_region-is r s e0 in
     let base : HasBase p r k.base = subst (λ t. HasBase p t k.base) (sym same) k.has_base in
     let one : k.base ≡ h.base = one_base p r k.base h.base e1 base h.has_base in
@@ -131,7 +128,7 @@ lies-allowed p Any x v e h = absurd (cc)
 outside-stands : (p : Places) (n : ℕ) (u : Bounded) (x y : ℕ) → IsValid p → y < 2 ^ 32 → y ≡ n → bounded_stands u p x → IfSome (outside_place n u) (Stand p (apply_op Eq B32 x y))
 outside-stands p n u x y v f k h =
     when (Stand p (apply_op Eq B32 x y)) (is_outside n && lies_in_region u) (Number 0)
-    (λ e. let (e0, e1) = both (is_outside n) (lies_in_region u) e in let (low, high) = lies-allowed p u x v e1 h in eq-apart n x y f e0 low high k)
+    (λ e. let (e0, e1) = and_parts (is_outside n) (lies_in_region u) e in let (low, high) = lies-allowed p u x v e1 h in eq-apart n x y f e0 low high k)
 
 outside-stands_turned : (p : Places) (n : ℕ) (u : Bounded) (x y : ℕ) → IsValid p → x < 2 ^ 32 → x ≡ n → bounded_stands u p y → IfSome (outside_place n u) (Stand p (apply_op Eq B32 x y))
 outside-stands_turned p n u x y v f k h = subst (λ z. IfSome (outside_place n u) (Stand p z)) (eq-comm y x) (outside-stands p n u y x v f k h)

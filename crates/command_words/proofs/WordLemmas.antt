@@ -8,31 +8,23 @@ use Rattle.std.specs.Str.{str_to_ascii_uppercase}
 use Rattle.std.specs.Str.Parse.{AllDigits, IsNumeral, digits_value}
 use Rattle.std.specs.Char.{to_ascii_uppercase}
 use Rattle.std.proofs.lemmas.List.{length-map}
-use Rattle.std.proofs.lemmas.Bool.{leb-true, eqb-true}
+use Rattle.std.proofs.lemmas.Bool.{leb-true, eqb-true, and_parts}
 use Rattle.std.proofs.lemmas.Str.{digit_value_digit}
 use Rattle.std.proofs.Math.Nat.{mul-le-mul_left, pow-succ'}
 use Rattle.text_fields.specs.Hex.{digit_number, number_after, hex8}
 use Rattle.text_fields.proofs.HexFacts.{digit_is, reads_hex8, length-hex8}
 use Rattle.command_words.specs.Words.{is_digit, is_number, is_within, number_within, address_of}
 
-and_left : (x y : Bool) → (x && y) ≡ true → x ≡ true
-and_left true y e = refl
-and_left false y e = e
-
-and_right : (x y : Bool) → (x && y) ≡ true → y ≡ true
-and_right true y e = e
-and_right false y e = cc
-
 -- a decimal digit's value is below 10
 digit_below : (c : ℕ) → is_digit c ≡ true → digit_value c < 10
 digit_below c is =
-    let low : 48 ≤ c = leb-true 48 c (and_left (nat_le 48 c) (nat_le c 57) is) in
-    let high : c ≤ 57 = leb-true c 57 (and_right (nat_le 48 c) (nat_le c 57) is) in
+    let low : 48 ≤ c = leb-true 48 c ((and_parts (nat_le 48 c) (nat_le c 57) is).0) in
+    let high : c ≤ 57 = leb-true c 57 ((and_parts (nat_le 48 c) (nat_le c 57) is).1) in
     omega (arith, digit_value_digit c (low, high))
 
 all_digits : (cs : List ℕ) → list_all is_digit cs ≡ true → AllDigits 10 cs
 all_digits [] all = tt
-all_digits (c ∷ cs) all = (digit_below c (and_left (is_digit c) (list_all is_digit cs) all), all_digits cs (and_right (is_digit c) (list_all is_digit cs) all))
+all_digits (c ∷ cs) all = (digit_below c ((and_parts (is_digit c) (list_all is_digit cs) all).0), all_digits cs ((and_parts (is_digit c) (list_all is_digit cs) all).1))
 
 pub record IsShortNumeral (word : List ℕ) : Type 0 where
   pub numeral : IsNumeral 10 word
@@ -40,11 +32,11 @@ pub record IsShortNumeral (word : List ℕ) : Type 0 where
 
 number_is : (word : List ℕ) → is_number word ≡ true → IsShortNumeral word
 number_is word is =
-    let front : (nat_le 1 (length word) && nat_le (length word) 10) ≡ true = and_left (nat_le 1 (length word) && nat_le (length word) 10) (list_all is_digit word) is in
-    let some : 1 ≤ length word = leb-true 1 (length word) (and_left (nat_le 1 (length word)) (nat_le (length word) 10) front) in
+    let front : (nat_le 1 (length word) && nat_le (length word) 10) ≡ true = (and_parts (nat_le 1 (length word) && nat_le (length word) 10) (list_all is_digit word) is).0 in
+    let some : 1 ≤ length word = leb-true 1 (length word) ((and_parts (nat_le 1 (length word)) (nat_le (length word) 10) front).0) in
     record {
-      numeral = (omega arith, all_digits word (and_right (nat_le 1 (length word) && nat_le (length word) 10) (list_all is_digit word) is));
-      short = leb-true (length word) 10 (and_right (nat_le 1 (length word)) (nat_le (length word) 10) front);
+      numeral = (omega arith, all_digits word ((and_parts (nat_le 1 (length word) && nat_le (length word) 10) (list_all is_digit word) is).1));
+      short = leb-true (length word) 10 ((and_parts (nat_le 1 (length word)) (nat_le (length word) 10) front).1);
     }
 
 -- a number that is not read is too great for a limit below 2^32
@@ -53,7 +45,7 @@ number_none least most word small is unread =
     let P : Bool → Type 0 = λ b. is_within least most (digits_value 10 word) ≡ b → cond (is_number word && b) (Some (digits_value 10 word)) None ≡ None in
     (elim (is_within least most (digits_value 10 word)) as P [
       | true ↦ λ within.
-          let few : digits_value 10 word ≤ most = leb-true (digits_value 10 word) most (and_right (nat_le least (digits_value 10 word)) (nat_le (digits_value 10 word) most) within) in
+          let few : digits_value 10 word ≤ most = leb-true (digits_value 10 word) most ((and_parts (nat_le least (digits_value 10 word)) (nat_le (digits_value 10 word) most) within).1) in
           let number : IsShortNumeral word = number_is word is in
           absurd (unread (number.numeral, number.short, omega arith))
       | false ↦ λ without. rw is refl

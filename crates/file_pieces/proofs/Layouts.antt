@@ -2,7 +2,7 @@
 use Rattle.std.proofs.Common.{ℕ, zero, suc, ◌≡◌, ◌+◌, ◌-◌, ◌≤◌, Bool, true, false, cond, List, [], ◌∷◌, length, take, drop, map, Option, Some, None, refl, sym, ap, ◌∙◌, arith, inl, inr, ◌⊎◌, subst, ⊎_elim}
 use Rattle.std.specs.Prelude.{◌&&◌, ◌||◌, ◌==◌, not, nat_le, nat_lt, All, replicate, filter, Result, Ok, Err, MatchResult}
 use Rattle.std.specs.List.{list_all}
-use Rattle.std.proofs.lemmas.Bool.{ltb-false, ne_eqb}
+use Rattle.std.proofs.lemmas.Bool.{ltb-false, ne_eqb, and_parts}
 use Rattle.std.proofs.lemmas.List.{length-take, length-drop, length-append, length-replicate}
 use Rattle.std.proofs.lemmas.List.Sums.{sum_by-cons}
 use Rattle.std.proofs.lemmas.List.Elements.{All-head, All-tail, All-filter}
@@ -11,7 +11,7 @@ use Rattle.memory_map.specs.Map.{map_fault, all_apart, are_apart, is_in_user_spa
 use Rattle.memory_map.specs.declared.segment.Segment.{Segment}
 use Rattle.memory_map.specs.declared.fault.MapFault.{MapFault}
 use Rattle.memory_map.specs.declared.fault.MapFault.TheVariants.{OutOfRange, Memory}
-use Rattle.memory_map.proofs.Faults.{and-parts, map_fault-outside}
+use Rattle.memory_map.proofs.Faults.{map_fault-outside}
 use Rattle.memory_map.proofs.Lists.{all_apart-cons}
 use Rattle.file_pieces.specs.Found.{passes_end}
 use Rattle.file_pieces.specs.Layout.{IsPiece, HasAddress, layout, extent, range_of_piece, bytes_of, is_mapped}
@@ -102,7 +102,7 @@ module _ (file : List ℕ) where
   mapped-all (s ∷ ss) (p ∷ ps) e h some =
       let first : range_of s ≡ range_of_piece file p = cc in
       let rest : map range_of ss ≡ map (range_of_piece file) ps = cc in
-      let parts = and-parts (is_mapped p) (list_all is_mapped ps) some in
+      let parts = and_parts (is_mapped p) (list_all is_mapped ps) some in
       let size : length s.bytes ≡ p.size = ap (λ (r : Range). length r.bytes) first ∙ length-bytes_of p (All-head (IsPiece file) p ps h) in
       let here : maps_some s ≡ true = ap (λ n. not (n == 0)) size ∙ parts.0 in
       ap (λ b. cond b (s ∷ mapped ss) (mapped ss)) here

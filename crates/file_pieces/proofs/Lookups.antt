@@ -3,9 +3,8 @@ use Rattle.std.proofs.Common.{ℕ, ◌≡◌, ◌≢◌, ◌+◌, ◌-◌, Bool,
 use Rattle.std.specs.Prelude.{◌||◌, nat_le, find, is_some, option_copied}
 use Rattle.std.specs.Option.{option_map, option_map_or}
 use Rattle.std.specs.List.{list_any}
-use Rattle.std.proofs.lemmas.Bool.{leb-true}
+use Rattle.std.proofs.lemmas.Bool.{leb-true, and_parts}
 use Rattle.memory_map.specs.Range.{Range, end_of}
-use Rattle.memory_map.proofs.Faults.{and-parts}
 use Rattle.memory_map.specs.Range.{holds}
 use Rattle.file_pieces.specs.Found.{IsHeld, is_in_one, bytes_at, rest_at}
 use Rattle.file_pieces.proofs.Texts.{not_zero}
@@ -29,7 +28,7 @@ find-passes {X} p (x ∷ xs) y h = by (p x) refl (find-passes p xs y) h
 
 pub held : (ranges : List Range) (a n : ℕ) (r : Range) → find (holds a n) ranges ≡ Some r → IsHeld a n r
 held ranges a n r h =
-    let parts = and-parts (nat_le r.low a) (nat_le (a + n) (end_of r)) (find-passes (holds a n) ranges r h) in
+    let parts = and_parts (nat_le r.low a) (nat_le (a + n) (end_of r)) (find-passes (holds a n) ranges r h) in
     record { above = leb-true r.low a parts.0; below = leb-true (a + n) (end_of r) parts.1 }
 
 pub bytes_at-none_asked : (ranges : List Range) (a n : ℕ) → n ≡ 0 → bytes_at ranges a n ≡ Some []

@@ -3,9 +3,8 @@ use Rattle.std.proofs.Common.{ℕ, zero, suc, ◌≡◌, ◌≢◌, ◌<◌, ◌
 use Rattle.std.specs.Prelude.{◌&&◌, nat_le, IfSome, ◌==◌}
 use Rattle.std.specs.Option.{option_map}
 use Rattle.std.specs.List.{list_all}
-use Rattle.std.proofs.lemmas.Bool.{leb-true, leb-false, ne_eqb}
+use Rattle.std.proofs.lemmas.Bool.{leb-true, leb-false, ne_eqb, and_parts}
 use Rattle.memory_map.specs.Name.{is_name, is_name_byte}
-use Rattle.memory_map.proofs.Faults.{and-parts}
 use Rattle.memory_map.specs.Range.{Range}
 use Rattle.file_pieces.specs.Found.{text_of, name_of, name_at, rest_at}
 
@@ -72,8 +71,8 @@ too_long text h = by (is_name text) refl
     by : (t : Bool) → is_name text ≡ t → t ≡ false
     by false e = refl
     by true e =
-        let parts = and-parts (nat_le 1 (length text) && nat_le (length text) 4096) (list_all is_name_byte text) e in
-        let short = leb-true (length text) 4096 (and-parts (nat_le 1 (length text)) (nat_le (length text) 4096) parts.0).1 in
+        let parts = and_parts (nat_le 1 (length text) && nat_le (length text) 4096) (list_all is_name_byte text) e in
+        let short = leb-true (length text) 4096 (and_parts (nat_le 1 (length text)) (nat_le (length text) 4096) parts.0).1 in
         absurd (omega (arith, short, h))
 
 no_name : (o : Option (List ℕ)) → IfSome o (λ text. 4097 ≤ length text) → name_of o ≡ None

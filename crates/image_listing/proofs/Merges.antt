@@ -8,23 +8,23 @@ use Rattle.std.proofs.lemmas.List.Sums.{AllPass-from_list_all}
 use Rattle.memory_map.specs.Image.{Image, IsLoaded, is_mapped}
 use Rattle.memory_map.specs.Map.{is_allowed}
 use Rattle.std.specs.List.{list_any}
-use Rattle.std.proofs.lemmas.Bool.{and_parts, cases_lt, cases_order, eq-eqb, false≢true, le-leb, leb-true, lt-leb, le-ltb, lt-ltb, ltb-true, ne_eqb, or_cases, or_left, or_right}
+use Rattle.std.proofs.lemmas.Bool.{and_parts, cases_lt, cases_order, eq-eqb, false≢true, le-leb, leb-true, lt-leb, le-ltb, lt-ltb, ltb-true, ne_eqb, or_cases, or_left, or_right, and_from}
 use Rattle.std.proofs.lemmas.List.Elements.{All-append, All-cons, All-nil}
 use Rattle.std.proofs.lemmas.List.Folds.{list_any-append, list_any_more}
 use Rattle.std.proofs.Math.Nat.{le-max_left, le-max_right, max-le}
 use Rattle.memory_map.specs.Range.{Range, USER_END, byte_at, end_of, has, IsInUserSpace}
 use Rattle.memory_map.specs.Spans.{is_in_ranges, is_in_span, join_span, runs_of, IsBelow}
 use Rattle.memory_map.specs.declared.span.Span.{Span}
-use Rattle.memory_map.proofs.Access.{and-both}
 use Rattle.memory_map.proofs.Reaching.{decided, each_of, read-mapped}
 use Rattle.image_listing.specs.Merging.{AreRuns, AreSeparate, BeginBy, Extends, Fits}
 use Rattle.image_listing.specs.Listing.{unset_runs}
+use Rattle.std.proofs.Math.Bool.{and-false}
 
 abbrev span_of : ℕ → ℕ → Span
 span_of low size = record { low = low; size = size }
 
 is_in : (x : ℕ) (s : Span) → s.low ≤ x → x < s.low + s.size → is_in_span x s ≡ true
-is_in x s low high = and-both (nat_le s.low x) (nat_lt x (s.low + s.size)) (le-leb s.low x low) (lt-ltb x (s.low + s.size) high)
+is_in x s low high = and_from (nat_le s.low x) (nat_lt x (s.low + s.size)) (le-leb s.low x low) (lt-ltb x (s.low + s.size) high)
 
 in_parts : (x : ℕ) (s : Span) → is_in_span x s ≡ true → (s.low ≤ x) × (x < s.low + s.size)
 in_parts x s h = let parts = and_parts (nat_le s.low x) (nat_lt x (s.low + s.size)) h in (leb-true s.low x parts.0, ltb-true x (s.low + s.size) parts.1)
@@ -121,11 +121,7 @@ module _ (test : ℕ → Bool) where
       sooner lo less (r ∷ rs) sep h = let from = sep.0 in (omega (arith, from, h), sep.1, sep.2)
 
       is_out : (x : ℕ) (r : Span) → r.low + r.size ≤ x → is_in_span x r ≡ false
-      is_out x r h = ap (λ b. nat_le r.low x && b) (le-ltb x (r.low + r.size) h) ∙ and_no (nat_le r.low x)
-        where
-          and_no : (b : Bool) → (b && false) ≡ false
-          and_no true = refl
-          and_no false = refl
+      is_out x r h = ap (λ b. nat_le r.low x && b) (le-ltb x (r.low + r.size) h) ∙ and-false (nat_le r.low x)
 
       span_is : (r : Span) (low size : ℕ) → r.low ≡ low → r.size ≡ size → r ≡ record { low = low; size = size }
       span_is r low size h k = ap (λ l. span_of l r.size) h ∙ ap (λ n. span_of low n) k

@@ -2,7 +2,7 @@
 use Rattle.std.proofs.Common.{ℕ, zero, suc, ◌≡◌, ◌+◌, ◌<◌, ◌≤◌, Bool, true, false, cond, List, [], ◌∷◌, ◌++◌, length, map, take, get_or, refl, sym, ap, subst, ◌∙◌, arith, ⊎_elim, Option, Some, None}
 use Rattle.std.specs.Prelude.{◌&&◌, ◌||◌, ◌==◌, not, nat_le, nat_lt, filter_map, IfSome, option_to_list, unwrap_or}
 use Rattle.std.specs.List.{cons_option, enumerate_from, list_all, list_any}
-use Rattle.std.proofs.lemmas.Bool.{and_parts, eqb-true, le-leb, leb-true, lt-ltb, or_cases, or_left, or_right}
+use Rattle.std.proofs.lemmas.Bool.{and_parts, eqb-true, le-leb, leb-true, lt-ltb, or_cases, or_left, or_right, and_from}
 use Rattle.std.proofs.lemmas.List.Sums.{fold_more}
 use Rattle.std.proofs.lemmas.List.{length-map, take_more}
 use Rattle.std.proofs.lemmas.List.Elements.{filter_map-append}
@@ -14,7 +14,6 @@ use Rattle.memory_map.specs.Range.{Range, end_of, has, holds, maps_all}
 use Rattle.memory_map.specs.declared.import_name.ImportName.{ImportName}
 use Rattle.memory_map.specs.declared.perm.Perm.{Perm}
 use Rattle.memory_map.specs.declared.span.Span.{Span}
-use Rattle.memory_map.proofs.Access.{and-both}
 use Rattle.memory_map.proofs.Patching.{patched-low, patched-length}
 use Rattle.memory_map.proofs.Reaching.{each_in, read-mapped}
 use Rattle.file_pieces.specs.Found.{is_in_one}
@@ -32,8 +31,8 @@ held_any (r ∷ rs) a n b h low high =
     let parts = and_parts (nat_le r.low a) (nat_le (a + n) (end_of r)) here in
     let above = leb-true r.low a parts.0 in
     let below = leb-true (a + n) (end_of r) parts.1 in
-    let inside : has b r ≡ true = and-both (nat_le r.low b) (nat_lt b (end_of r)) (le-leb r.low b (omega arith)) (lt-ltb b (end_of r) (omega arith)) in
-    or_left (has b r && true) (is_allowed rs (record { 0 = 1 }) b) (and-both (has b r) true inside refl))
+    let inside : has b r ≡ true = and_from (nat_le r.low b) (nat_lt b (end_of r)) (le-leb r.low b (omega arith)) (lt-ltb b (end_of r) (omega arith)) in
+    or_left (has b r && true) (is_allowed rs (record { 0 = 1 }) b) (and_from (has b r) true inside refl))
     (λ later. or_right (has b r && true) (is_allowed rs (record { 0 = 1 }) b) (held_any rs a n b later low high))
     (or_cases (holds a n r) (list_any (holds a n) rs) h)
 
@@ -84,7 +83,7 @@ module _ (stubs : StatedStubs) (names : List (List ℕ)) where
     one_more : (t : Bool) (r : ElfReloc) (rest : List Span) → is_inside ranges r ≡ true → list_all (is_mapped (relocated stubs names ranges all)) rest ≡ true
         → list_all (is_mapped (relocated stubs names ranges all)) (cons_option (cond t (Some (record { low = r.at; size = r.size })) None) rest) ≡ true
     one_more true r rest inside h =
-        and-both (is_mapped (relocated stubs names ranges all) (record { low = r.at; size = r.size })) (list_all (is_mapped (relocated stubs names ranges all)) rest)
+        and_from (is_mapped (relocated stubs names ranges all) (record { low = r.at; size = r.size })) (list_all (is_mapped (relocated stubs names ranges all)) rest)
         (mapped_in_one (relocated stubs names ranges all) r.at r.size (stays r.at r.size all ranges ∙ inside)) h
     one_more false r rest inside h = h
 

@@ -2,7 +2,7 @@
 use Rattle.std.proofs.Common.{ℕ, zero, suc, ◌≡◌, ◌+◌, ◌-◌, ◌*◌, ◌/◌, ◌%◌, ◌^◌, ◌<◌, ◌≤◌, ◌⊎◌, inl, inr, ⊎_elim, Bool, true, false, List, [], ◌∷◌, ◌++◌, length, replicate, get_or, refl, sym, ap, ◌∙◌, subst, arith, Some}
 use Rattle.std.specs.Prelude.{◌&&◌, nat_le, nat_lt, slice_get, All, AllPairs}
 use Rattle.std.specs.List.{AllZip}
-use Rattle.std.proofs.lemmas.Bool.{le-leb, lt-ltb}
+use Rattle.std.proofs.lemmas.Bool.{le-leb, lt-ltb, and_from}
 use Rattle.std.proofs.lemmas.List.{length-append, length-replicate}
 use Rattle.std.proofs.lemmas.List.Elements.{All-append, All-cons, All-nil, All-replicate}
 use Rattle.std.proofs.lemmas.Nat.{pow-add}
@@ -13,7 +13,6 @@ use Rattle.memory_map.specs.Range.{Range, byte_at, end_of, has, AreApart, HasByt
 use Rattle.memory_map.specs.State.{MachineState, memory}
 use Rattle.memory_map.specs.Start.{Start, HasWord, HoldsLoaded, IsWindow, STACK_BELOW, STACK_ABOVE, BASE_REACH}
 use Rattle.memory_map.specs.declared.span.Span.{Span}
-use Rattle.memory_map.proofs.Access.{and-both}
 use Rattle.memory_map.proofs.Alignments.{alignment_power}
 use Rattle.memory_map.proofs.Faults.{pairs-cons}
 use Rattle.memory_map.proofs.Lists.{byte_at-here}
@@ -74,7 +73,7 @@ base_window base = record { low = base - BASE_REACH; bytes = blank (BASE_REACH +
 stack_byte : (esp k b : ℕ) (others : List Range) → STACK_BELOW ≤ esp → k < STACK_ABOVE → slice_get (exit_bytes ++ blank 4092) k ≡ Some b → byte_at (stack_window esp ∷ others) (esp + k) ≡ Some b
 stack_byte esp k b others room within h =
     let r = stack_window esp in
-    let held : has (esp + k) r ≡ true = and-both (nat_le r.low (esp + k)) (nat_lt (esp + k) (end_of r)) (le-leb r.low (esp + k) (omega arith)) (lt-ltb (esp + k) (end_of r) (omega (arith, length-stack_bytes))) in
+    let held : has (esp + k) r ≡ true = and_from (nat_le r.low (esp + k)) (nat_lt (esp + k) (end_of r)) (le-leb r.low (esp + k) (omega arith)) (lt-ltb (esp + k) (end_of r) (omega (arith, length-stack_bytes))) in
     let at : esp + k - (esp - STACK_BELOW) ≡ STACK_BELOW + k = omega arith in
     byte_at-here r others (esp + k) held ∙ ap (λ i. slice_get stack_bytes i) at ∙ exit_byte k b h
 

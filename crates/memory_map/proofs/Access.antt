@@ -1,31 +1,27 @@
 -- Accesses that go from segment to segment.
 use Rattle.std.proofs.Common.{ℕ, ◌≡◌, ◌+◌, ◌-◌, ◌^◌, ◌<◌, ◌≤◌, true, List, map, length, get_or, sym, ◌∙◌, ap, subst, arith, IsTrue, ◌↔◌, Bool}
 use Rattle.std.specs.Prelude.{◌&&◌, nat_le, nat_lt}
-use Rattle.std.proofs.lemmas.Bool.{leb-true, ltb-true, le-leb, lt-ltb}
+use Rattle.std.proofs.lemmas.Bool.{leb-true, ltb-true, le-leb, lt-ltb, and_parts, and_from}
 use Rattle.std.proofs.lemmas.List.{length-map, get_or-map}
 use Rattle.std.proofs.lemmas.List.Folds.{list_any_at}
 use Rattle.memory_map.specs.Range.{Range, has, end_of}
 use Rattle.memory_map.specs.Map.{range_of, permits, is_allowed, Allows, AreAllowed}
 use Rattle.memory_map.specs.declared.perm.Perm.{Perm}
 use Rattle.memory_map.specs.declared.segment.Segment.{Segment}
-use Rattle.memory_map.proofs.Faults.{and-parts}
-
-pub and-both : (a b : Bool) → a ≡ true → b ≡ true → (a && b) ≡ true
-and-both a b h k = ap (λ t. t && b) h ∙ k
 
 -- the bytes of a segment from one of its addresses on
 pub allowed_segment : (list : List Segment) (perm : Perm) (a i : ℕ) (s : Segment) → i < length list → s ≡ get_or list i s → has a (range_of s) ≡ true → permits perm (range_of s) ≡ true → (a < end_of (range_of s)) × AreAllowed (map range_of list) perm a (end_of (range_of s))
 allowed_segment list perm a i s in' is here allows =
     let r = range_of s in
-    let parts = and-parts (nat_le r.low a) (nat_lt a (end_of r)) here in
+    let parts = and_parts (nat_le r.low a) (nat_lt a (end_of r)) here in
     let above = leb-true r.low a parts.0 in
     let at : range_of s ≡ get_or (map range_of list) i (range_of s) = ap range_of is ∙ sym (get_or-map range_of list i s (range_of s) in') in (
       ltb-true a (end_of r) parts.1,
       record {
         each = λ b low high.
             let Passes : Range → Type 0 = λ (x : Range). (has b x && permits perm x) ≡ true in
-            let has_b : has b r ≡ true = and-both (nat_le r.low b) (nat_lt b (end_of r)) (le-leb r.low b (omega arith)) (lt-ltb b (end_of r) high) in
-            list_any_at (λ (x : Range). has b x && permits perm x) (map range_of list) i r (omega (arith, length-map list range_of)) (subst Passes at (and-both (has b r) (permits perm r) has_b allows));
+            let has_b : has b r ≡ true = and_from (nat_le r.low b) (nat_lt b (end_of r)) (le-leb r.low b (omega arith)) (lt-ltb b (end_of r) high) in
+            list_any_at (λ (x : Range). has b x && permits perm x) (map range_of list) i r (omega (arith, length-map list range_of)) (subst Passes at (and_from (has b r) (permits perm r) has_b allows));
       },
     )
 

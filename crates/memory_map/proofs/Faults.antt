@@ -2,7 +2,7 @@
 use Rattle.std.proofs.Common.{◌≡◌, inl, inr, ⊎_elim, Bool, true, false, List, [], ◌∷◌, Some, None, refl, ap, sym, ◌∙◌, arith, subst, map, zero, suc, cond}
 use Rattle.std.specs.Prelude.{◌&&◌, ◌||◌, nat_le, nat_lt, All, AllPairs, filter}
 use Rattle.std.specs.List.{list_all}
-use Rattle.std.proofs.lemmas.Bool.{leb-true, le-leb, le-ltb, ltb-false, or_cases, or_right}
+use Rattle.std.proofs.lemmas.Bool.{leb-true, le-leb, le-ltb, ltb-false, or_cases, or_right, and_parts}
 use Rattle.std.proofs.lemmas.List.Elements.{All-nil, All-cons, All-map}
 use Rattle.memory_map.specs.Range.{Range, USER_LOW, USER_END, end_of, IsInUserSpace, AreApart, HasBytes}
 use Rattle.memory_map.specs.Map.{range_of, all_apart, are_apart, is_in_user_space, total_size, map_fault, mapped, maps_some, HasSome, IsMap, MAPPED_LIMIT}
@@ -27,10 +27,6 @@ unfolding map_fault
 map_fault-none rs h k l = rw (h, k, l) refl
 
 -- both parts of a test that passes
-pub and-parts : (a b : Bool) → (a && b) ≡ true → (a ≡ true) × (b ≡ true)
-and-parts true b h = (refl, h)
-and-parts false b h = cc
-
 kept_first : {X : Type 0} (p : X → Bool) (x : X) (xs : List X) (b : Bool) → p x ≡ b → list_all p (filter p xs) ≡ true → list_all p (cond b (x ∷ filter p xs) (filter p xs)) ≡ true
 kept_first p x xs true is h = rw is h
 kept_first p x xs false is h = h
@@ -43,12 +39,12 @@ all_kept p (x ∷ xs) = kept_first p x xs (p x) refl (all_kept p xs)
 pub All-from_list_all : {X : Type 0} (P : X → Type 0) (p : X → Bool) → ((x : X) → p x ≡ true → P x) → (xs : List X) → list_all p xs ≡ true → All P xs
 All-from_list_all P p says [] h = All-nil P
 All-from_list_all P p says (x ∷ xs) h =
-    let parts = and-parts (p x) (list_all p xs) h in
+    let parts = and_parts (p x) (list_all p xs) h in
     All-cons P x xs (says x parts.0) (All-from_list_all P p says xs parts.1)
 
 pub user_space : (r : Range) → is_in_user_space r ≡ true → IsInUserSpace r
 user_space r h =
-    let parts = and-parts (nat_le USER_LOW r.low) (nat_le (end_of r) USER_END) h in
+    let parts = and_parts (nat_le USER_LOW r.low) (nat_le (end_of r) USER_END) h in
     record { above = leb-true USER_LOW r.low parts.0; below = leb-true (end_of r) USER_END parts.1 }
 
 pub apart_ranges : (r s : Range) → are_apart r s ≡ true → AreApart r s
@@ -64,7 +60,7 @@ pairs-cons r rs first rest i zero d lt in' = absurd (omega (arith, lt))
 pub pairs_apart : (rs : List Range) → all_apart rs ≡ true → AllPairs AreApart rs
 pairs_apart [] h = λ i j d lt in'. absurd (omega (arith, in'))
 pairs_apart (r ∷ rs) h =
-    let parts = and-parts (list_all (are_apart r) rs) (all_apart rs) (sym (all_apart-cons r rs) ∙ h) in
+    let parts = and_parts (list_all (are_apart r) rs) (all_apart rs) (sym (all_apart-cons r rs) ∙ h) in
     pairs-cons r rs (All-from_list_all (AreApart r) (are_apart r) (apart_ranges r) rs parts.0) (pairs_apart rs parts.1)
 
 -- segments that map anything have some byte each
@@ -129,7 +125,7 @@ maps_some_by s h = grind arith
 filter-all : {X : Type 0} (p : X → Bool) (xs : List X) → list_all p xs ≡ true → filter p xs ≡ xs
 filter-all p [] h = refl
 filter-all p (x ∷ xs) h =
-    let parts = and-parts (p x) (list_all p xs) h in
+    let parts = and_parts (p x) (list_all p xs) h in
     ap (λ b. cond b (x ∷ filter p xs) (filter p xs)) parts.0 ∙ ap (λ ys. x ∷ ys) (filter-all p xs parts.1)
 
 pub mapped-map : (list : List Segment) → IsMap (map range_of list) → mapped list ≡ list

@@ -48,10 +48,7 @@ pub code_at-none : (a : ℕ) → code_at [] a ≡ None
 unfolding code_at
 code_at-none a = byte_at-none a
 
--- a first part that fails, and both parts
-pub and-false : (a b : Bool) → a ≡ false → (a && b) ≡ false
-and-false a b h = ap (λ t. t && b) h
-
+-- a first part that holds
 pub and-true : (a b : Bool) → a ≡ true → (a && b) ≡ b
 and-true a b h = ap (λ t. t && b) h
 

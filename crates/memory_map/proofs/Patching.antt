@@ -2,7 +2,7 @@
 use Rattle.std.proofs.Common.{ℕ, ◌≡◌, ◌+◌, ◌-◌, ◌≤◌, ◌<◌, ◌/◌, ◌^◌, Bool, true, false, cond, List, [], ◌∷◌, ◌++◌, length, take, drop, get_or, set, map, add-zero, refl, sym, ap, subst, ◌∙◌, arith, inl, inr, ⊎_elim, zero, suc}
 use Rattle.std.specs.Prelude.{◌&&◌, nat_le, All, AllPairs}
 use Rattle.std.specs.Int.{w32, byte_at, bytes_low_first, to_le_bytes}
-use Rattle.std.proofs.lemmas.Bool.{leb-true}
+use Rattle.std.proofs.lemmas.Bool.{leb-true, and_parts}
 use Rattle.std.proofs.lemmas.List.{length-take, length-drop, length-append, length-map, map-append, take_more, take_more_set, drop-set-lt, get_or-drop, get_or-map}
 use Rattle.std.proofs.lemmas.Grind.{drop_more_same}
 use Rattle.std.proofs.lemmas.List.Elements.{All-append, All-take, All-drop, All-map, All-cons, All-nil}
@@ -12,7 +12,7 @@ use Rattle.memory_map.specs.Range.{Range, end_of, holds, AreApart, HasBytes, IsI
 use Rattle.memory_map.specs.Map.{range_of, total_size, HasSome, IsMap, MAPPED_LIMIT}
 use Rattle.memory_map.specs.Patch.{patched, put_word, with_word}
 use Rattle.memory_map.specs.declared.segment.Segment.{Segment}
-use Rattle.memory_map.proofs.Faults.{and-parts, pairs-cons}
+use Rattle.memory_map.proofs.Faults.{pairs-cons}
 
 length-with_word : (bytes : List ℕ) (at word : ℕ) → at + 4 ≤ length bytes → length (with_word bytes at word) ≡ length bytes
 length-with_word bytes at word h =
@@ -31,7 +31,7 @@ patched-length a word r = by (holds a 4 r) refl
   where
     by : (t : Bool) → holds a 4 r ≡ t → length (cond t (record r { bytes = with_word r.bytes (a - r.low) word }) r).bytes ≡ length r.bytes
     by true e =
-        let parts = and-parts (nat_le r.low a) (nat_le (a + 4) (end_of r)) e in
+        let parts = and_parts (nat_le r.low a) (nat_le (a + 4) (end_of r)) e in
         let above = leb-true r.low a parts.0 in
         let below = leb-true (a + 4) (end_of r) parts.1 in
         length-with_word r.bytes (a - r.low) word (omega (arith, above, below))

@@ -8,6 +8,7 @@ use Rattle.memory_map.specs.Range.{Range, byte_at, end_of, has, may_write}
 use Rattle.memory_map.specs.Map.{is_allowed, permits, AreAllowed}
 use Rattle.memory_map.specs.declared.perm.Perm.{Perm}
 use Rattle.memory_map.proofs.Lists.{byte_at-here, byte_at-there, byte_at-none}
+use Rattle.std.proofs.Math.Bool.{and-true}
 
 some_within : {X : Type 0} (xs : List X) (k : ℕ) → k < length xs → is_some (slice_get xs k) ≡ true
 some_within [] k h = absurd (omega arith)
@@ -49,13 +50,9 @@ all_pass (x ∷ xs) = ap (λ ys. x ∷ ys) (all_pass xs)
 pub read-mapped : (ranges : List Range) (a : ℕ) → is_allowed ranges readable a ≡ is_some (byte_at ranges a)
 read-mapped ranges a = any_byte (λ r. permits readable r) (λ r. true) (λ r. refl) a ranges ∙ ap (λ rs. is_some (byte_at rs a)) (all_pass ranges)
 
-and_true : (b : Bool) → (b && true) ≡ b
-and_true true = refl
-and_true false = refl
-
 pub write-mapped : (ranges : List Range) (a : ℕ) → is_allowed ranges writable a ≡ may_write ranges a
 unfolding may_write
-write-mapped ranges a = any_byte (λ r. permits writable r) (λ r. r.write) (λ r. and_true r.write) a ranges
+write-mapped ranges a = any_byte (λ r. permits writable r) (λ r. r.write) (λ r. and-true r.write) a ranges
 
 -- a test of each number from one on, of so many
 pub each_in : (test : ℕ → Bool) (a n : ℕ) → ((b : ℕ) → a ≤ b → b < a + n → test b ≡ true) → list_all test (range_with_len a n) ≡ true

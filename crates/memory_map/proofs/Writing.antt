@@ -2,7 +2,7 @@
 use Rattle.std.proofs.Common.{ℕ, zero, suc, ◌≡◌, ◌+◌, ◌-◌, ◌<◌, ◌≤◌, Bool, true, false, cond, List, [], ◌∷◌, map, length, get_or, refl, sym, ◌∙◌, ap, subst, arith, ⊎_elim, All, min, max, Some}
 use Rattle.std.specs.Prelude.{◌&&◌, ◌||◌, ◌==◌, nat_le, nat_lt, slice_get}
 use Rattle.std.specs.List.{list_any}
-use Rattle.std.proofs.lemmas.Bool.{and_parts, cases_lt, false≢true, or_left, or_right, or_parts, eqb-true, eq-eqb, ne_eqb, leb-true, le-leb, lt-ltb, ltb-true, or_cases}
+use Rattle.std.proofs.lemmas.Bool.{and_parts, cases_lt, false≢true, or_left, or_right, or_parts, eqb-true, eq-eqb, ne_eqb, leb-true, le-leb, lt-ltb, ltb-true, or_cases, and_from}
 use Rattle.std.proofs.lemmas.List.Elements.{All-cons, All-nil}
 use Rattle.std.proofs.lemmas.List.{length-map, get_or-map}
 use Rattle.std.proofs.Math.Nat.{le-max_left, le-max_right, min-le_left, min-le_right, max-le, le-min}
@@ -11,7 +11,7 @@ use Rattle.memory_map.specs.Map.{is_allowed, may_write_between, permits, range_o
 use Rattle.memory_map.specs.Spans.{AreAll, IsBelow, join_span, runs_of}
 use Rattle.memory_map.specs.declared.segment.Segment.{Segment}
 use Rattle.memory_map.specs.declared.span.Span.{Span}
-use Rattle.memory_map.proofs.Access.{allowed_segment, and-both}
+use Rattle.memory_map.proofs.Access.{allowed_segment}
 use Rattle.memory_map.proofs.Reaching.{any_in, decided, found_in, writable, write-mapped}
 
 module _ (test : ℕ → Bool) where
@@ -132,7 +132,7 @@ writes_from list a i s in' is here allows =
     let parts = and_parts (nat_le r.low a) (nat_lt a (end_of r)) here in
     let above = leb-true r.low a parts.0 in
     let below = ltb-true a (end_of r) parts.1 in
-    let low : has s.low r ≡ true = and-both (nat_le r.low r.low) (nat_lt r.low (end_of r)) (le-leb r.low r.low (omega arith)) (lt-ltb r.low (end_of r) (omega arith)) in
+    let low : has s.low r ≡ true = and_from (nat_le r.low r.low) (nat_lt r.low (end_of r)) (le-leb r.low r.low (omega arith)) (lt-ltb r.low (end_of r) (omega arith)) in
     let all = (allowed_segment list writable s.low i s in' is low allows).1 in
     (above, record { each = λ b from to. sym (write-mapped (map range_of list) b) ∙ all.each b from (omega arith) })
 
@@ -150,8 +150,8 @@ module _ (list : List Segment) (low a : ℕ) where
           let below = ltb-true b (end_of r) parts.1 in
           absurd (⊎_elim
           (λ (inside : a < end_of r).
-          let held : has a r ≡ true = and-both (nat_le r.low a) (nat_lt a (end_of r)) (le-leb r.low a (omega arith)) (lt-ltb a (end_of r) inside) in
-          false≢true (sym none ∙ and-both (has a r) (permits writable r) held allows))
+          let held : has a r ≡ true = and_from (nat_le r.low a) (nat_lt a (end_of r)) (le-leb r.low a (omega arith)) (lt-ltb a (end_of r) inside) in
+          false≢true (sym none ∙ and_from (has a r) (permits writable r) held allows))
           (λ (past : end_of r ≤ a). omega (arith, ends allows past))
           (cases_lt a (end_of r)))
       at true false here allows = refl
@@ -214,7 +214,7 @@ module _ (from end : ℕ) where
         above = low;
         below = omega (arith, less, high);
         written = or_left (has b r && permits writable r) (is_allowed rs writable b)
-            (and-both (has b r) (permits writable r) (and-both (nat_le r.low b) (nat_lt b (end_of r)) (le-leb r.low b low') (lt-ltb b (end_of r) (omega (arith, less, high')))) (and-both r.write true parts.0 refl));
+            (and_from (has b r) (permits writable r) (and_from (nat_le r.low b) (nat_lt b (end_of r)) (le-leb r.low b low') (lt-ltb b (end_of r) (omega (arith, less, high')))) (and_from r.write true parts.0 refl));
       }
 
   written_by : (ranges : List Range) → list_any (may_write_between from end) ranges ≡ true → IsWritten ranges
@@ -228,7 +228,7 @@ module _ (from end : ℕ) where
       let inside = and_parts (nat_le r.low b) (nat_lt b (end_of r)) parts.0 in
       let least = max-le above (leb-true r.low b inside.0) in
       let most : b < min end (end_of r) = le-min below (ltb-true b (end_of r) inside.1) in
-      and-both r.write (nat_lt (max from r.low) (min end (end_of r))) (and_parts r.write true parts.1).0 (lt-ltb (max from r.low) (min end (end_of r)) (omega (arith, least, most)))
+      and_from r.write (nat_lt (max from r.low) (min end (end_of r))) (and_parts r.write true parts.1).0 (lt-ltb (max from r.low) (min end (end_of r)) (omega (arith, least, most)))
 
   by_written : (ranges : List Range) (b : ℕ) → from ≤ b → b < end → is_allowed ranges writable b ≡ true → list_any (may_write_between from end) ranges ≡ true
   by_written [] b above below h = absurd (false≢true h)

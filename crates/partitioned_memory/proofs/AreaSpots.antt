@@ -4,7 +4,7 @@ use Rattle.std.specs.Prelude.{IfOk, ◌||◌, ◌&&◌, ◌⊎◌, not, int_lt}
 use Rattle.std.specs.Ordering.{is_lt, is_eq, ordering_reverse}
 use Rattle.std.specs.declared.cmp.Ordering.{Ordering}
 use Rattle.std.specs.declared.cmp.Ordering.TheVariants.{Less, Equal, Greater}
-use Rattle.std.proofs.lemmas.Bool.{false≢true, and_parts}
+use Rattle.std.proofs.lemmas.Bool.{false≢true, and_parts, not-false}
 use Rattle.std.proofs.lemmas.Int.{ints}
 use Rattle.std.proofs.lemmas.List.Elements.{filter_agree}
 use Rattle.address_regions.specs.declared.region.Region.{Region}
@@ -22,7 +22,6 @@ use Rattle.partitioned_memory.proofs.ListLaws.{Ascends-filter}
 use Rattle.partitioned_memory.proofs.Cuts.{Falls-ascending, around-none}
 use Rattle.partitioned_memory.proofs.Orders.{Lies, area_total, before-lies, int_lt-from, int_lt-true, same_area-by_cmp, same_area-is}
 use Rattle.partitioned_memory.proofs.FactSpots.{Ascends-facts, Falls-through, fact-filled, map-around, ok-mapped}
-use Rattle.partitioned_memory.proofs.PairLaws.{from-not}
 
 less-is : (o : Ordering) → is_lt o ≡ true → o ≡ Less
 less-is Less e = refl
@@ -83,7 +82,7 @@ later-not-less f g a e k =
 pub parted-area : {D : Type 0} (a : Area) (pairs : List (Spot × Held D)) → Ascends fact_before (map fact_at pairs) → IsParted (λ p. is_lt (area_cmp p.0.area a)) (λ p. is_lt (area_cmp a p.0.area)) pairs
 parted-area {D} a pairs h = record {
   start = Falls-through (fact_at {D = D}) fact_before (λ f. is_lt (area_cmp f.area a)) pairs (λ f g e k. later-not-less f g a e k) h;
-  end = Falls-through (fact_at {D = D}) fact_before (λ f. not (is_lt (area_cmp a f.area))) pairs (λ f g e k. ap not (then-more f g a e (from-not (is_lt (area_cmp a f.area)) k))) h;
+  end = Falls-through (fact_at {D = D}) fact_before (λ f. not (is_lt (area_cmp a f.area))) pairs (λ f g e k. ap not (then-more f g a e (not-false (is_lt (area_cmp a f.area)) k))) h;
 }
 
 pub outside-left : {D : Type 0} (r : Region) (pairs : List (Spot × Held D)) → Ascends fact_before (map fact_at pairs) → map fact_at (around (λ p. is_lt (area_cmp p.0.area (In r))) None (λ p. is_lt (area_cmp (In r) p.0.area)) pairs) ≡ facts_outside r (map fact_at pairs)

@@ -7,7 +7,7 @@ use Rattle.std.proofs.lemmas.Bool.Decides.{nat_tests}
 use Rattle.std.proofs.lemmas.Int.{ints}
 use Rattle.std.specs.Ordering.{is_eq}
 use Rattle.std.specs.declared.cmp.Ordering.TheVariants.{Less}
-use Rattle.std.proofs.lemmas.Bool.{false≢true}
+use Rattle.std.proofs.lemmas.Bool.{false≢true, and_parts, and_from, not-true}
 use Rattle.bit_words.specs.declared.width.Width.{Width}
 use Rattle.bit_words.specs.Width.{bits_of}
 use Rattle.address_regions.specs.declared.region.Region.{Region}
@@ -37,20 +37,9 @@ use Rattle.partitioned_memory.proofs.Kept.{fact_before-trans}
 use Rattle.partitioned_memory.proofs.Orders.{area_total, by_area-true, by_area-less, same_area-by_cmp, int_le-true, int_le-from, int_lt-true, int_lt-from, is_left-trans}
 use Rattle.partitioned_memory.proofs.DirtySpots.{Ascends-ranges}
 use Rattle.partitioned_memory.proofs.FactSpots.{Ascends-facts}
+use Rattle.std.proofs.Math.Bool.{and-false}
 
 -- ---- tests
-
-both : (s t : Bool) → (s && t) ≡ true → (s ≡ true) × (t ≡ true)
-both true t e = (refl, e)
-both false t e = absurd (cc)
-
-both_true : (s t : Bool) → s ≡ true → t ≡ true → (s && t) ≡ true
-both_true true t e f = f
-both_true false t e f = e
-
-from_not : (t : Bool) → not t ≡ true → t ≡ false
-from_not true e = absurd (cc)
-from_not false e = refl
 
 to_not : (t : Bool) → t ≡ false → not t ≡ true
 to_not t e = ap not e
@@ -58,11 +47,11 @@ to_not t e = ap not e
 -- a test of each element
 pub Every-all : {X : Type 0} (t : X → Bool) (P : X → Type 0) (xs : List X) → ((x : X) → t x ≡ true → P x) → list_all t xs ≡ true → Every P xs
 Every-all t P [] f e = tt
-Every-all t P (x ∷ xs) f e = let (g, h) = both (t x) (list_all t xs) e in (f x g, Every-all t P xs f h)
+Every-all t P (x ∷ xs) f e = let (g, h) = and_parts (t x) (list_all t xs) e in (f x g, Every-all t P xs f h)
 
 pub all-Every : {X : Type 0} (t : X → Bool) (P : X → Type 0) (xs : List X) → ((x : X) → P x → t x ≡ true) → Every P xs → list_all t xs ≡ true
 all-Every t P [] f h = refl
-all-Every t P (x ∷ xs) f h = both_true (t x) (list_all t xs) (f x h.0) (all-Every t P xs f h.1)
+all-Every t P (x ∷ xs) f h = and_from (t x) (list_all t xs) (f x h.0) (all-Every t P xs f h.1)
 
 -- ---- order
 
@@ -72,14 +61,14 @@ pub Ascends-of : {X : Type 0} (before : X → X → Bool) (P : X → Type 0) →
 Ascends-of before P trans [] p e = tt
 Ascends-of before P trans (x ∷ []) p e = (tt, tt)
 Ascends-of before P trans (x ∷ y ∷ ys) p e =
-    let (first, others) = both (before x y) (ascend before (y ∷ ys)) e in
+    let (first, others) = and_parts (before x y) (ascend before (y ∷ ys)) e in
     let rest : Ascends before (y ∷ ys) = Ascends-of before P trans (y ∷ ys) p.1 others in
     ((first, Every-weaker (λ z. before y z ≡ true) (λ z. before x z ≡ true) ys (λ z h. trans x y z p.1.0 first h) rest.0), rest)
 
 pub ascend-of : {X : Type 0} (before : X → X → Bool) (xs : List X) → Ascends before xs → ascend before xs ≡ true
 ascend-of before [] h = refl
 ascend-of before (x ∷ []) h = refl
-ascend-of before (x ∷ y ∷ ys) h = both_true (before x y) (ascend before (y ∷ ys)) h.0.0 (ascend-of before (y ∷ ys) h.1)
+ascend-of before (x ∷ y ∷ ys) h = and_from (before x y) (ascend before (y ∷ ys)) h.0.0 (ascend-of before (y ∷ ys) h.1)
 
 count_before-less : (c e : Counted) → count_before c e ≡ true → area_cmp (In c.region) (In e.region) ≡ Less
 count_before-less c e h =
@@ -104,12 +93,8 @@ each-neighbour : {X : Type 0} (before : X → X → Bool) (xs : List X) → ((k 
 each-neighbour before [] h = refl
 each-neighbour before (x ∷ []) h = refl
 each-neighbour before (x ∷ y ∷ ys) h =
-    both_true (before x y) (ascend before (y ∷ ys)) (sym (h 0 1 x refl (omega arith)))
+    and_from (before x y) (ascend before (y ∷ ys)) (sym (h 0 1 x refl (omega arith)))
     (each-neighbour before (y ∷ ys) (λ k n d e l. h (suc k) (suc n) d (omega (arith, e)) (omega (arith, l))))
-
-no_more : (t : Bool) → (t && false) ≡ false
-no_more true = refl
-no_more false = refl
 
 some-neighbour : {X : Type 0} (before : X → X → Bool) (xs : List X) (k n : ℕ) → n ≡ k + 1 → n < length xs → ((d : X) → false ≡ before (get_or xs k d) (get_or xs n d)) → ascend before xs ≡ false
 some-neighbour before [] k n e l h = absurd (omega (arith, l))
@@ -120,7 +105,7 @@ some-neighbour before (x ∷ y ∷ ys) zero (suc n) e l h =
     let first : false ≡ before x y = subst (λ j. false ≡ before x (get_or (y ∷ ys) j x)) next (h x) in
     ap (λ s. s && ascend before (y ∷ ys)) (sym first)
 some-neighbour before (x ∷ y ∷ ys) (suc k) (suc n) e l h =
-    ap (λ s. before x y && s) (some-neighbour before (y ∷ ys) k n (omega (arith, e)) (omega (arith, l)) h) ∙ no_more (before x y)
+    ap (λ s. before x y && s) (some-neighbour before (y ∷ ys) k n (omega (arith, e)) (omega (arith, l)) h) ∙ and-false (before x y)
 
 pub sorted : {X : Type 0} (before : X → X → Bool) (xs : List X) (r : Bool) → IsAllAdjacentAnswer (λ x y b. b ≡ before x y) xs r → r ≡ ascend before xs
 sorted before xs true h = sym (each-neighbour before xs (λ k n d e l. subst (λ j. true ≡ before (get_or xs k d) (get_or xs j d)) (sym e) (h k d (omega (arith, e, l)))))
@@ -193,9 +178,9 @@ least_above (In (Block site size zeroed)) low h = omega (arith, ints)
 
 pub inside-of : (i : Interval) → lies_inside i ≡ true → IsInside i
 inside-of i e =
-    let (low, rest) = both (int_le (bounds_of i.area).0 i.low) (int_le i.low i.end && (int_le i.end (bounds_of i.area).1 && int_le i.end (pos (2 ^ 32)))) e in
-    let (ordered, ends) = both (int_le i.low i.end) (int_le i.end (bounds_of i.area).1 && int_le i.end (pos (2 ^ 32))) rest in
-    let (end, greatest) = both (int_le i.end (bounds_of i.area).1) (int_le i.end (pos (2 ^ 32))) ends in
+    let (low, rest) = and_parts (int_le (bounds_of i.area).0 i.low) (int_le i.low i.end && (int_le i.end (bounds_of i.area).1 && int_le i.end (pos (2 ^ 32)))) e in
+    let (ordered, ends) = and_parts (int_le i.low i.end) (int_le i.end (bounds_of i.area).1 && int_le i.end (pos (2 ^ 32))) rest in
+    let (end, greatest) = and_parts (int_le i.end (bounds_of i.area).1) (int_le i.end (pos (2 ^ 32))) ends in
     record {
       low = int_le-true (bounds_of i.area).0 i.low low;
       end = int_le-true i.end (bounds_of i.area).1 end;
@@ -208,9 +193,9 @@ inside-of i e =
 
 pub lies-inside : (i : Interval) → IsInside i → lies_inside i ≡ true
 lies-inside i h =
-    both_true (int_le (bounds_of i.area).0 i.low) (int_le i.low i.end && (int_le i.end (bounds_of i.area).1 && int_le i.end (pos (2 ^ 32)))) (int_le-from (bounds_of i.area).0 i.low h.low)
-    (both_true (int_le i.low i.end) (int_le i.end (bounds_of i.area).1 && int_le i.end (pos (2 ^ 32))) (int_le-from i.low i.end h.bounded.ordered)
-    (both_true (int_le i.end (bounds_of i.area).1) (int_le i.end (pos (2 ^ 32))) (int_le-from i.end (bounds_of i.area).1 h.end) (int_le-from i.end (pos (2 ^ 32)) h.bounded.greatest)))
+    and_from (int_le (bounds_of i.area).0 i.low) (int_le i.low i.end && (int_le i.end (bounds_of i.area).1 && int_le i.end (pos (2 ^ 32)))) (int_le-from (bounds_of i.area).0 i.low h.low)
+    (and_from (int_le i.low i.end) (int_le i.end (bounds_of i.area).1 && int_le i.end (pos (2 ^ 32))) (int_le-from i.low i.end h.bounded.ordered)
+    (and_from (int_le i.end (bounds_of i.area).1) (int_le i.end (pos (2 ^ 32))) (int_le-from i.end (bounds_of i.area).1 h.end) (int_le-from i.end (pos (2 ^ 32)) h.bounded.greatest)))
 
 pub count-of : (blocks : List Counted) (r : Option Region) → has_count blocks r ≡ true → HasCount blocks r
 count-of blocks None e = tt
@@ -243,29 +228,29 @@ module _ {D : Type 0} (d : Values D) where
 
   fact-of : (blocks : List Counted) (f : Fact D) → is_sound_fact d f ≡ true → is_counted_fact d blocks f ≡ true → IsWellFact d blocks f
   fact-of blocks f s c =
-      let (inside, rest) = both (lies_inside (interval_of_fact f)) (not (d.rank f.value == 0) && fits_width d f.w f.value) s in
-      let (ranked, fits) = both (not (d.rank f.value == 0)) (fits_width d f.w f.value) rest in
-      let (area, value) = both (has_count blocks (block_in f.area)) (is_counted_value d blocks f.value) c in
+      let (inside, rest) = and_parts (lies_inside (interval_of_fact f)) (not (d.rank f.value == 0) && fits_width d f.w f.value) s in
+      let (ranked, fits) = and_parts (not (d.rank f.value == 0)) (fits_width d f.w f.value) rest in
+      let (area, value) = and_parts (has_count blocks (block_in f.area)) (is_counted_value d blocks f.value) c in
       record {
         inside = inside-of (interval_of_fact f) inside;
         counted = count-of blocks (block_in f.area) area;
-        ranked = from_not (d.rank f.value == 0) ranked;
+        ranked = not-true (d.rank f.value == 0) ranked;
         holds = record { fits = fits-of f.w f.value fits; counted = count-of blocks (named (d.reach f.value)) value };
       }
 
   sound-fact : (blocks : List Counted) (f : Fact D) → IsWellFact d blocks f → is_sound_fact d f ≡ true
   sound-fact blocks f h =
-      both_true (lies_inside (interval_of_fact f)) (not (d.rank f.value == 0) && fits_width d f.w f.value) (lies-inside (interval_of_fact f) h.inside)
-      (both_true (not (d.rank f.value == 0)) (fits_width d f.w f.value) (to_not (d.rank f.value == 0) h.ranked) (fits-width f.w f.value h.holds.fits))
+      and_from (lies_inside (interval_of_fact f)) (not (d.rank f.value == 0) && fits_width d f.w f.value) (lies-inside (interval_of_fact f) h.inside)
+      (and_from (not (d.rank f.value == 0)) (fits_width d f.w f.value) (to_not (d.rank f.value == 0) h.ranked) (fits-width f.w f.value h.holds.fits))
 
   counted-fact : (blocks : List Counted) (f : Fact D) → IsWellFact d blocks f → is_counted_fact d blocks f ≡ true
   counted-fact blocks f h =
-      both_true (has_count blocks (block_in f.area)) (is_counted_value d blocks f.value) (has-count blocks (block_in f.area) h.counted) (has-count blocks (named (d.reach f.value)) h.holds.counted)
+      and_from (has_count blocks (block_in f.area)) (is_counted_value d blocks f.value) (has-count blocks (block_in f.area) h.counted) (has-count blocks (named (d.reach f.value)) h.holds.counted)
 
 dirty-of : (blocks : List Counted) (r : Dirty) → is_sound_dirty r ≡ true → is_counted_dirty blocks r ≡ true → IsWellDirty blocks (interval_of_dirty r)
 dirty-of blocks r s c =
-    let (filled, rest) = both (int_lt (interval_of_dirty r).low (interval_of_dirty r).end) (lies_inside (interval_of_dirty r) && is_marked r.area) s in
-    let (inside, marked) = both (lies_inside (interval_of_dirty r)) (is_marked r.area) rest in
+    let (filled, rest) = and_parts (int_lt (interval_of_dirty r).low (interval_of_dirty r).end) (lies_inside (interval_of_dirty r) && is_marked r.area) s in
+    let (inside, marked) = and_parts (lies_inside (interval_of_dirty r)) (is_marked r.area) rest in
     record {
       filled = int_lt-true (interval_of_dirty r).low (interval_of_dirty r).end filled;
       inside = inside-of (interval_of_dirty r) inside;
@@ -275,8 +260,8 @@ dirty-of blocks r s c =
 
 sound-dirty : (blocks : List Counted) (r : Dirty) → IsWellDirty blocks (interval_of_dirty r) → is_sound_dirty r ≡ true
 sound-dirty blocks r h =
-    both_true (int_lt (interval_of_dirty r).low (interval_of_dirty r).end) (lies_inside (interval_of_dirty r) && is_marked r.area) (int_lt-from (interval_of_dirty r).low (interval_of_dirty r).end h.filled)
-    (both_true (lies_inside (interval_of_dirty r)) (is_marked r.area) (lies-inside (interval_of_dirty r) h.inside) h.marked)
+    and_from (int_lt (interval_of_dirty r).low (interval_of_dirty r).end) (lies_inside (interval_of_dirty r) && is_marked r.area) (int_lt-from (interval_of_dirty r).low (interval_of_dirty r).end h.filled)
+    (and_from (lies_inside (interval_of_dirty r)) (is_marked r.area) (lies-inside (interval_of_dirty r) h.inside) h.marked)
 
 counted-dirty : (blocks : List Counted) (r : Dirty) → IsWellDirty blocks (interval_of_dirty r) → is_counted_dirty blocks r ≡ true
 counted-dirty blocks r h = has-count blocks (block_in r.area) h.counted
@@ -292,13 +277,13 @@ module _ {D : Type 0} (d : Values D) (h : PartsHeld D) where
   well-of e =
       let F = are_sound_facts d h.blocks h.facts in
       let R = are_sound_dirty h.blocks h.dirty in
-      let (blocks, rest) = both (are_blocks h.blocks) (F && R) e in
-      let (facts, dirty) = both F R rest in
-      let (blocks_order, blocks_each) = both (ascend count_before h.blocks) (list_all is_block h.blocks) blocks in
-      let (facts_order, facts_each) = both (ascend fact_before h.facts) (list_all (is_sound_fact d) h.facts && list_all (is_counted_fact d h.blocks) h.facts) facts in
-      let (facts_sound, facts_counted) = both (list_all (is_sound_fact d) h.facts) (list_all (is_counted_fact d h.blocks) h.facts) facts_each in
-      let (dirty_order, dirty_each) = both (ascend dirty_before h.dirty) (list_all is_sound_dirty h.dirty && list_all (is_counted_dirty h.blocks) h.dirty) dirty in
-      let (dirty_sound, dirty_counted) = both (list_all is_sound_dirty h.dirty) (list_all (is_counted_dirty h.blocks) h.dirty) dirty_each in
+      let (blocks, rest) = and_parts (are_blocks h.blocks) (F && R) e in
+      let (facts, dirty) = and_parts F R rest in
+      let (blocks_order, blocks_each) = and_parts (ascend count_before h.blocks) (list_all is_block h.blocks) blocks in
+      let (facts_order, facts_each) = and_parts (ascend fact_before h.facts) (list_all (is_sound_fact d) h.facts && list_all (is_counted_fact d h.blocks) h.facts) facts in
+      let (facts_sound, facts_counted) = and_parts (list_all (is_sound_fact d) h.facts) (list_all (is_counted_fact d h.blocks) h.facts) facts_each in
+      let (dirty_order, dirty_each) = and_parts (ascend dirty_before h.dirty) (list_all is_sound_dirty h.dirty && list_all (is_counted_dirty h.blocks) h.dirty) dirty in
+      let (dirty_sound, dirty_counted) = and_parts (list_all is_sound_dirty h.dirty) (list_all (is_counted_dirty h.blocks) h.dirty) dirty_each in
       let well_facts : Every (IsWellFact d h.blocks) h.facts =
       Every-both (λ f. is_sound_fact d f ≡ true) (λ f. is_counted_fact d h.blocks f ≡ true) (IsWellFact d h.blocks) h.facts (fact-of d h.blocks)
       (Every-all (is_sound_fact d) (λ f. is_sound_fact d f ≡ true) h.facts (λ f t. t) facts_sound)
@@ -313,7 +298,7 @@ module _ {D : Type 0} (d : Values D) (h : PartsHeld D) where
         dirty_ascends = Ascends-of dirty_before (λ r. IsWellDirty h.blocks (interval_of_dirty r)) (dirty_before-trans h.blocks) h.dirty well_dirty dirty_order;
         dirty = well_dirty;
         blocks_ascend = counts-ascend h.blocks blocks_order;
-        blocks = Every-all is_block IsBlock h.blocks (λ c t. from_not (has_one_base c.region) t) blocks_each;
+        blocks = Every-all is_block IsBlock h.blocks (λ c t. not-true (has_one_base c.region) t) blocks_each;
       }
 
   pub are-well : IsWell d h → are_well d h ≡ true
@@ -321,16 +306,16 @@ module _ {D : Type 0} (d : Values D) (h : PartsHeld D) where
   are-well w =
       let F = are_sound_facts d h.blocks h.facts in
       let R = are_sound_dirty h.blocks h.dirty in
-      both_true (are_blocks h.blocks) (F && R)
-      (both_true (ascend count_before h.blocks) (list_all is_block h.blocks) (ascend-of count_before h.blocks w.blocks_ascend)
+      and_from (are_blocks h.blocks) (F && R)
+      (and_from (ascend count_before h.blocks) (list_all is_block h.blocks) (ascend-of count_before h.blocks w.blocks_ascend)
       (all-Every is_block IsBlock h.blocks (λ c t. to_not (has_one_base c.region) t) w.blocks))
-      (both_true F R
-      (both_true (ascend fact_before h.facts) (list_all (is_sound_fact d) h.facts && list_all (is_counted_fact d h.blocks) h.facts) (ascend-of fact_before h.facts w.facts_ascend)
-      (both_true (list_all (is_sound_fact d) h.facts) (list_all (is_counted_fact d h.blocks) h.facts)
+      (and_from F R
+      (and_from (ascend fact_before h.facts) (list_all (is_sound_fact d) h.facts && list_all (is_counted_fact d h.blocks) h.facts) (ascend-of fact_before h.facts w.facts_ascend)
+      (and_from (list_all (is_sound_fact d) h.facts) (list_all (is_counted_fact d h.blocks) h.facts)
       (all-Every (is_sound_fact d) (IsWellFact d h.blocks) h.facts (sound-fact d h.blocks) w.facts)
       (all-Every (is_counted_fact d h.blocks) (IsWellFact d h.blocks) h.facts (counted-fact d h.blocks) w.facts)))
-      (both_true (ascend dirty_before h.dirty) (list_all is_sound_dirty h.dirty && list_all (is_counted_dirty h.blocks) h.dirty) (ascend-of dirty_before h.dirty w.dirty_ascends)
-      (both_true (list_all is_sound_dirty h.dirty) (list_all (is_counted_dirty h.blocks) h.dirty)
+      (and_from (ascend dirty_before h.dirty) (list_all is_sound_dirty h.dirty && list_all (is_counted_dirty h.blocks) h.dirty) (ascend-of dirty_before h.dirty w.dirty_ascends)
+      (and_from (list_all is_sound_dirty h.dirty) (list_all (is_counted_dirty h.blocks) h.dirty)
       (all-Every is_sound_dirty (λ r. IsWellDirty h.blocks (interval_of_dirty r)) h.dirty (sound-dirty h.blocks) w.dirty)
       (all-Every (is_counted_dirty h.blocks) (λ r. IsWellDirty h.blocks (interval_of_dirty r)) h.dirty (counted-dirty h.blocks) w.dirty))))
 

@@ -4,7 +4,7 @@ use Rattle.std.specs.Prelude.{◌-◌, ◌==◌, slice_get, not, ◌||◌, ◌&&
 use Rattle.std.specs.List.{AllWithin, list_all, list_any}
 use Rattle.std.specs.Option.{option_map}
 use Rattle.std.specs.List.Sorted.{IsPartitionedBy}
-use Rattle.std.proofs.lemmas.Bool.{false≢true}
+use Rattle.std.proofs.lemmas.Bool.{false≢true, and_right}
 use Rattle.std.proofs.lemmas.List.{append-nil, drop-drop, drop-take, drop_more, length-take-le, map-append, nil_from_length, take-append-drop, take_rest}
 use Rattle.std.proofs.lemmas.List.Elements.{filter-append, filter_agree}
 use Rattle.partitioned_memory.specs.Lists.{Every, Ascends, Falls, around, placed}
@@ -370,12 +370,8 @@ before-filter b a [] h = refl
 before-filter b a (x ∷ xs) h =
     ap (λ s. cond (not s && not (a x)) (x ∷ filter (λ y. not (b y) && not (a y)) xs) (filter (λ y. not (b y) && not (a y)) xs)) h.0 ∙ before-filter b a xs h.1
 
-and-none : (s t : Bool) → t ≡ false → (s && t) ≡ false
-and-none true t e = e
-and-none false t e = refl
-
 after-filter : {X : Type 0} (b a : X → Bool) (xs : List X) → Every (λ x. not (a x) ≡ false) xs → filter (λ x. not (b x) && not (a x)) xs ≡ []
-after-filter b a xs h = filter-none (λ x. not (b x) && not (a x)) xs (Every-weaker (λ x. not (a x) ≡ false) (λ x. (not (b x) && not (a x)) ≡ false) xs (λ x e. and-none (not (b x)) (not (a x)) e) h)
+after-filter b a xs h = filter-none (λ x. not (b x) && not (a x)) xs (Every-weaker (λ x. not (a x) ≡ false) (λ x. (not (b x) && not (a x)) ≡ false) xs (λ x e. and_right (not (b x)) (not (a x)) e) h)
 
 rest-filter : {X : Type 0} (b a : X → Bool) (xs : List X) (s : ℕ) → Every (λ x. b x ≡ true) (take s xs) → filter (λ x. not (b x) && not (a x)) xs ≡ filter (λ x. not (b x) && not (a x)) (drop s xs)
 rest-filter b a xs s h =

@@ -3,7 +3,7 @@ use Rattle.std.proofs.Common.{◌≡◌, Bool, true, false, cond, List, [], ◌�
 use Rattle.std.specs.Prelude.{IfOk, ◌&&◌, not}
 use Rattle.std.specs.Ordering.{ordering_reverse}
 use Rattle.std.specs.declared.cmp.Ordering.TheVariants.{Less, Equal, Greater}
-use Rattle.std.proofs.lemmas.Bool.{false≢true}
+use Rattle.std.proofs.lemmas.Bool.{false≢true, not-false}
 use Rattle.std.proofs.lemmas.Int.{ints, int_max_is, int_min_is}
 use Rattle.partitioned_memory.specs.declared.area.Interval.{Interval}
 use Rattle.partitioned_memory.specs.declared.fact.Spot.{Spot}
@@ -17,7 +17,7 @@ use Rattle.partitioned_memory.proofs.Cuts.{Every-unmap, filter-all, filter-none}
 use Rattle.partitioned_memory.proofs.Orders.{Lies, Touches, area_cmp-refl, area_total, is_left-trans, left-from, left-lies, touching}
 use Rattle.partitioned_memory.proofs.FactSpots.{less-spot, low-spot, map-around, map-filter, ok-mapped}
 use Rattle.partitioned_memory.proofs.Kept.{Ascends-dirty_with, Every-dirty_with}
-use Rattle.partitioned_memory.proofs.PairLaws.{from-not}
+use Rattle.std.proofs.Math.Bool.{and-false}
 
 abbrev IsRange : Dirty → Type 0
 IsRange r = IsBounded (interval_of_dirty r)
@@ -103,10 +103,6 @@ right-not-left i j k o e h =
       | false ↦ λ q. refl
     ] refl
 
-and-false : (b : Bool) → (b && false) ≡ false
-and-false true = refl
-and-false false = refl
-
 untouched : (i : Interval) (s : Dirty) → is_left i (interval_of_dirty s) ≡ true → touch i s ≡ false
 untouched i s e = ap (λ b. not (is_left (interval_of_dirty s) i) && not b) e ∙ and-false (not (is_left (interval_of_dirty s) i))
 
@@ -169,7 +165,7 @@ falls-left i (p ∷ pairs) f h =
 falls-right : (i : Interval) (pairs : List (Spot × ℤ)) → Every IsRange (map dirty_at pairs) → Ascends dirty_before (map dirty_at pairs) → Falls (λ p. not (is_left i (interval_of_dirty (dirty_at p)))) pairs
 falls-right i [] f h = tt
 falls-right i (p ∷ pairs) f h =
-    (λ e. Every-unmap dirty_at (λ r. not (is_left i (interval_of_dirty r)) ≡ false) pairs (Every-weaker (λ r. dirty_before (dirty_at p) r ≡ true) (λ r. not (is_left i (interval_of_dirty r)) ≡ false) (map dirty_at pairs) (λ r b. ap not (is_left-trans i (interval_of_dirty (dirty_at p)) (interval_of_dirty r) f.0.ordered (from-not (is_left i (interval_of_dirty (dirty_at p))) e) b)) h.0), falls-right i pairs f.1 h.1)
+    (λ e. Every-unmap dirty_at (λ r. not (is_left i (interval_of_dirty r)) ≡ false) pairs (Every-weaker (λ r. dirty_before (dirty_at p) r ≡ true) (λ r. not (is_left i (interval_of_dirty r)) ≡ false) (map dirty_at pairs) (λ r b. ap not (is_left-trans i (interval_of_dirty (dirty_at p)) (interval_of_dirty r) f.0.ordered (not-false (is_left i (interval_of_dirty (dirty_at p))) e) b)) h.0), falls-right i pairs f.1 h.1)
 
 -- the ranges to the left of an interval come first, and those to its right last
 pub parted-ranges : (i : Interval) (pairs : List (Spot × ℤ)) → i.low ≤ℤ i.end → Every IsRange (map dirty_at pairs) → Ascends dirty_before (map dirty_at pairs) → IsParted (λ p. is_left (interval_of_dirty (dirty_at p)) i) (λ p. is_left i (interval_of_dirty (dirty_at p))) pairs

@@ -5,7 +5,7 @@ use Rattle.std.specs.Option.{option_map}
 use Rattle.std.specs.Ordering.{int_cmp, is_lt, ordering_reverse, ordering_then}
 use Rattle.std.specs.declared.cmp.Ordering.{Ordering}
 use Rattle.std.specs.declared.cmp.Ordering.TheVariants.{Less, Equal, Greater}
-use Rattle.std.proofs.lemmas.Bool.{false≢true}
+use Rattle.std.proofs.lemmas.Bool.{false≢true, not-false}
 use Rattle.std.proofs.lemmas.Int.{ints}
 use Rattle.std.proofs.lemmas.List.{map-append}
 use Rattle.bit_words.specs.declared.width.Width.{Width}
@@ -26,7 +26,6 @@ use Rattle.partitioned_memory.proofs.ListLaws.{Every-kept, Every-weaker, Ascends
 use Rattle.partitioned_memory.proofs.Cuts.{Every-unmap, Falls-ascending, around-none, placed-between}
 use Rattle.partitioned_memory.proofs.Orders.{Lies, area_cmp-refl, area_total, before-lies, int_lt-from, is_before-trans}
 use Rattle.partitioned_memory.proofs.Kept.{fact_before-trans}
-use Rattle.partitioned_memory.proofs.PairLaws.{from-not}
 
 -- ---- lists through a function
 
@@ -142,7 +141,7 @@ later-not-before f g i e k =
 pub parted-facts : {D : Type 0} (i : Interval) (pairs : List (Spot × Held D)) → i.low ≤ℤ i.end → Ascends fact_before (map fact_at pairs) → IsParted (λ p. is_before (interval_of_fact (fact_at p)) i) (λ p. is_before i (interval_of_fact (fact_at p))) pairs
 parted-facts {D} i pairs o h = record {
   start = Falls-through (fact_at {D = D}) fact_before (λ f. is_before (interval_of_fact f) i) pairs (λ f g e k. later-not-before f g i e k) h;
-  end = Falls-through (fact_at {D = D}) fact_before (λ f. not (is_before i (interval_of_fact f))) pairs (λ f g e k. ap not (is_before-trans i (interval_of_fact f) (interval_of_fact g) (ordered f) (from-not (is_before i (interval_of_fact f)) k) e)) h;
+  end = Falls-through (fact_at {D = D}) fact_before (λ f. not (is_before i (interval_of_fact f))) pairs (λ f g e k. ap not (is_before-trans i (interval_of_fact f) (interval_of_fact g) (ordered f) (not-false (is_before i (interval_of_fact f)) k) e)) h;
 }
 
 -- ---- what a write of facts leaves

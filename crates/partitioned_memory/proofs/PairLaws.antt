@@ -6,7 +6,7 @@ use Rattle.std.specs.Cmp.{IsTotalOrder}
 use Rattle.std.specs.Ordering.{MatchOrdering, int_cmp, int_eq, is_eq, is_lt, ordering_reverse}
 use Rattle.std.specs.declared.cmp.Ordering.{Ordering}
 use Rattle.std.specs.declared.cmp.Ordering.TheVariants.{Less, Equal, Greater}
-use Rattle.std.proofs.lemmas.Bool.{and_parts, false≢true}
+use Rattle.std.proofs.lemmas.Bool.{and_parts, false≢true, not-false}
 use Rattle.std.proofs.lemmas.Cmp.{int_ranked}
 use Rattle.std.proofs.lemmas.List.Elements.{filter_agree}
 use Rattle.partitioned_memory.specs.declared.area.Area.{Area}
@@ -94,10 +94,6 @@ one-spot a b =
 
 -- ---- the pair of a spot
 
-pub from-not : (b : Bool) → not b ≡ false → b ≡ true
-from-not true e = refl
-from-not false e = absurd (cc)
-
 not-below : (a b k : Spot) → spot_before a b ≡ true → spot_before a k ≡ false → spot_before b k ≡ false
 not-below a b k e f =
     elim (spot_before b k) as (λ s. spot_before b k ≡ s → s ≡ false) [
@@ -108,7 +104,7 @@ not-below a b k e f =
 pub parted-at : {V : Type 0} (k : Spot) (pairs : List (Spot × V)) → Ascends pair_before pairs → IsParted (λ p. spot_before p.0 k) (λ p. spot_before k p.0) pairs
 parted-at {V} k pairs h = record {
   start = Falls-ascending pair_before (λ p. spot_before p.0 k) pairs (λ p q e f. not-below p.0 q.0 k e f) h;
-  end = Falls-ascending pair_before (λ p. not (spot_before k p.0)) pairs (λ p q e f. ap not (spot_before-trans k p.0 q.0 (from-not (spot_before k p.0) f) e)) h;
+  end = Falls-ascending pair_before (λ p. not (spot_before k p.0)) pairs (λ p q e f. ap not (spot_before-trans k p.0 q.0 (not-false (spot_before k p.0) f) e)) h;
 }
 
 find-agree : {X : Type 0} (p q : X → Bool) → ((x : X) → p x ≡ q x) → (xs : List X) → find p xs ≡ find q xs

@@ -4,7 +4,7 @@ use Rattle.std.specs.Prelude.{◌||◌, ◌&&◌, ◌==◌, not, find, is_some, 
 use Rattle.std.specs.List.{list_any}
 use Rattle.std.specs.Option.{option_map}
 use Rattle.std.specs.Ordering.{int_eq}
-use Rattle.std.proofs.lemmas.Bool.{false≢true, and_parts, or_right}
+use Rattle.std.proofs.lemmas.Bool.{false≢true, and_parts, or_right, not-true}
 use Rattle.bit_words.specs.declared.width.Width.{Width}
 use Rattle.bit_words.specs.Width.{bytes_of}
 use Rattle.domain_laws.specs.Laws.{Values}
@@ -59,10 +59,6 @@ find-same p q h [] = refl
 find-same p q h (x ∷ xs) = ap (λ b. cond b (Some x) (find p xs)) (h x) ∙ ap (λ r. cond (q x) (Some x) r) (find-same p q h xs)
 
 -- ---- one spot
-
-not-true : (b : Bool) → not b ≡ true → b ≡ false
-not-true true e = absurd (false≢true e)
-not-true false e = refl
 
 -- no later pair is of the same spot
 elsewhere : (a b k : Spot) → same_spot a k ≡ true → spot_before a b ≡ true → same_spot b k ≡ false

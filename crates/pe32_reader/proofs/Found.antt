@@ -2,11 +2,10 @@
 use Rattle.std.proofs.Common.{ℕ, ◌≡◌, ◌≢◌, ◌+◌, ◌-◌, ◌≤◌, Bool, true, false, List, [], ◌∷◌, length, take, drop, Option, Some, None, refl, ap, ◌∙◌, arith, All}
 use Rattle.std.specs.Prelude.{◌||◌, nat_le, find}
 use Rattle.std.specs.List.{list_any}
-use Rattle.std.proofs.lemmas.Bool.{leb-true}
+use Rattle.std.proofs.lemmas.Bool.{leb-true, and_parts}
 use Rattle.std.proofs.lemmas.List.{length-take, length-drop}
 use Rattle.std.proofs.lemmas.List.Elements.{All-head, All-tail}
 use Rattle.memory_map.specs.Range.{Range, end_of, USER_END, IsInUserSpace}
-use Rattle.memory_map.proofs.Faults.{and-parts}
 use Rattle.memory_map.specs.Range.{holds}
 use Rattle.file_pieces.specs.Found.{bytes_at}
 use Rattle.file_pieces.proofs.Lookups.{held, bytes_at-found, bytes_at-none}
@@ -30,7 +29,7 @@ in_one-below (r ∷ rs) a inside h = by (holds a 4 r) refl h (in_one-below rs a 
   where
     by : (t : Bool) → holds a 4 r ≡ t → (t || list_any (holds a 4) rs) ≡ true → (list_any (holds a 4) rs ≡ true → a + 4 ≤ USER_END) → a + 4 ≤ USER_END
     by true e g rest =
-        let parts = and-parts (nat_le r.low a) (nat_le (a + 4) (end_of r)) e in
+        let parts = and_parts (nat_le r.low a) (nat_le (a + 4) (end_of r)) e in
         let end = leb-true (a + 4) (end_of r) parts.1 in
         let space = (All-head IsInUserSpace r rs inside).below in
         omega (arith, end, space)

@@ -3,7 +3,7 @@ use Rattle.std.proofs.Common.{◌≡◌, ℕ, zero, suc, ◌+◌, ◌-◌, ◌^�
 use Rattle.std.specs.Prelude.{◌⊎◌, ◌&&◌, ◌||◌, IfNone, IfSome, is_some, nat_le, nat_lt, slice_get, slice_index, slice_set, All, AllPairs}
 use Rattle.std.specs.List.{list_all}
 use Rattle.std.proofs.Math.Nat.{eq-or-lt_of_le}
-use Rattle.std.proofs.lemmas.Bool.{and_from, and_parts, cases_Bool, cases_lt, cond_both, false≢true, le-leb, leb-true, lt-ltb, ltb-true, or_cases, or_left, or_right}
+use Rattle.std.proofs.lemmas.Bool.{and_from, and_parts, cases_Bool, cases_lt, cond_both, false≢true, le-leb, leb-true, lt-ltb, ltb-true, or_cases, or_left, or_right, and_right}
 use Rattle.std.proofs.lemmas.List.{get_or_append_left, get_or_default, get_or_push, get_or_read, length-set, length_push}
 use Rattle.std.proofs.lemmas.List.Edits.{get_or-insert_above, get_or-insert_at, get_or-insert_below, length-insert}
 use Rattle.std.proofs.lemmas.List.Elements.{All-from_get_or, All-get_or, All-head, All-push, All-tail, All-weaker}
@@ -96,14 +96,10 @@ code_off [] a off = code_at-none a
 code_off (r ∷ rs) a off =
     code_at-not_here r rs a (All-head (λ s. has a s ≡ false) r rs off) ∙ code_off rs a (All-tail (λ s. has a s ≡ false) r rs off)
 
-and_off : (b c : Bool) → c ≡ false → (b && c) ≡ false
-and_off true c h = h
-and_off false c h = refl
-
 pub write_off : (rs : List Range) (a : ℕ) → All (λ r. has a r ≡ false) rs → may_write rs a ≡ false
 write_off [] a off = may_write-none a
 write_off (r ∷ rs) a off =
-    may_write-passed r rs a (and_off r.write (has a r) (All-head (λ s. has a s ≡ false) r rs off))
+    may_write-passed r rs a (and_right r.write (has a r) (All-head (λ s. has a s ≡ false) r rs off))
     ∙ write_off rs a (All-tail (λ s. has a s ≡ false) r rs off)
 
 -- a change of the ranges that have an address alone
@@ -153,7 +149,7 @@ pub write_placed : (rs : List Range) (a p : ℕ) → AllPairs AreApart rs → Is
 write_placed [] a p apart at = absurd (nothing_placed a p at)
 write_placed (r ∷ rs) a zero apart at = write_first r rs a r.write refl (pairs_head r rs apart) at.low at.end
 write_placed (r ∷ rs) a (suc p) apart at =
-    may_write-passed r rs a (and_off r.write (has a r) (off_head r rs a p (pairs_head r rs apart) (tail_placed r rs a p at)))
+    may_write-passed r rs a (and_right r.write (has a r) (off_head r rs a p (pairs_head r rs apart) (tail_placed r rs a p at)))
     ∙ write_placed rs a p (pairs_tail r rs apart) (tail_placed r rs a p at)
 
 pub map_placed : (f : Range → Range) (rs : List Range) (a p : ℕ) → ChangesAt a f → AllPairs AreApart rs → IsPlaced rs a p
@@ -210,7 +206,7 @@ until_none list now a same off =
 -- behind a first range that has it not
 pub until_behind : (r : Range) (rs : List Range) (a : ℕ) (answer : Option ℕ) → AllPairs AreApart (r ∷ rs) → has a r ≡ false → IsUntil rs a answer → IsUntil (r ∷ rs) a answer
 until_behind r rs a None apart off until =
-    record { on = tt; each = tt; none = may_write-passed r rs a (and_off r.write (has a r) off) ∙ until.none }
+    record { on = tt; each = tt; none = may_write-passed r rs a (and_right r.write (has a r) off) ∙ until.none }
 until_behind r rs a (Some end) apart off until =
     record {
       on = until.on;
@@ -218,7 +214,7 @@ until_behind r rs a (Some end) apart off until =
         each = λ c from to.
             let writes = until.each.each c from to in
             let lacks = apart_not_in r rs c (pairs_head r rs apart) (written_mapped rs c writes) in
-            may_write-passed r rs c (and_off r.write (has c r) lacks) ∙ writes;
+            may_write-passed r rs c (and_right r.write (has c r) lacks) ∙ writes;
       };
       none = tt;
     }

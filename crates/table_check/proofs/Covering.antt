@@ -32,9 +32,10 @@ use Rattle.abstract_state.specs.State.{Known, covers_state}
 use Rattle.abstract_state.specs.Truth.{covers_truth}
 use Rattle.abstract_state.proofs.Covering.{first, rest, int-same, nat-same}
 use Rattle.abstract_state.proofs.Logic.{covers_refl}
-use Rattle.abstract_state.proofs.Raising.{both, int-refl, nat-refl}
+use Rattle.abstract_state.proofs.Raising.{int-refl, nat-refl}
 use Rattle.flow_log.proofs.Members.{Contains-cases, Contains-here, Contains-later, Contains-none, Contains-slice_get}
 use Rattle.table_check.proofs.Closing.{all_of, any_found}
+use Rattle.std.proofs.lemmas.Bool.{and_from}
 
 -- ---- lists in which each member has one of another list
 
@@ -56,7 +57,7 @@ any_of t (y ∷ ys) x held e =
 
 pub all_by : {X : Type 0} (t : X → Bool) (xs : List X) → ((x : X) → Contains xs x → t x ≡ true) → list_all t xs ≡ true
 all_by t [] h = refl
-all_by t (x ∷ xs) h = both (t x) (list_all t xs) (h x (Contains-here x xs)) (all_by t xs (λ y held. h y (Contains-later x y xs held)))
+all_by t (x ∷ xs) h = and_from (t x) (list_all t xs) (h x (Contains-here x xs)) (all_by t xs (λ y held. h y (Contains-later x y xs held)))
 
 -- a member that fails
 not_by : {X : Type 0} (t : X → Bool) (xs : List X) (x : X) (b : Bool) → list_all t xs ≡ b → Contains xs x → t x ≡ false → list_all t xs ≡ false
@@ -68,8 +69,8 @@ not_all t xs i x within is off = not_by t xs x (list_all t xs) refl (Contains-sl
 
 -- a member more that passes
 all_push : {X : Type 0} (t : X → Bool) (xs : List X) (x : X) → list_all t xs ≡ true → t x ≡ true → list_all t (xs ++ x ∷ []) ≡ true
-all_push t [] x e on = both (t x) true on refl
-all_push t (y ∷ ys) x e on = both (t y) (list_all t (ys ++ x ∷ [])) (first (t y) (list_all t ys) e) (all_push t ys x (rest (t y) (list_all t ys) e) on)
+all_push t [] x e on = and_from (t x) true on refl
+all_push t (y ∷ ys) x e on = and_from (t y) (list_all t (ys ++ x ∷ [])) (first (t y) (list_all t ys) e) (all_push t ys x (rest (t y) (list_all t ys) e) on)
 
 pub all_more : {X : Type 0} (t : X → Bool) (xs : List X) (i : ℕ) (x : X) → i < length xs → x ≡ get_or xs i x → list_all t (take i xs) ≡ true → t x ≡ true → list_all t (take (i + 1) xs) ≡ true
 all_more t xs i x within is e on =
@@ -119,13 +120,13 @@ truth-through No Unknown c e f = absurd (cc)
 
 flags-own : (t : Truths) → covers_flags t t ≡ true
 flags-own t =
-    both _ _ (both _ _ (both _ _ (both _ _ (both _ _ (both _ _ (covers_refl t.carry) (covers_refl t.parity)) (covers_refl t.adjust)) (covers_refl t.zero)) (covers_refl t.sign)) (covers_refl t.overflow)) (covers_refl t.direction)
+    and_from _ _ (and_from _ _ (and_from _ _ (and_from _ _ (and_from _ _ (and_from _ _ (covers_refl t.carry) (covers_refl t.parity)) (covers_refl t.adjust)) (covers_refl t.zero)) (covers_refl t.sign)) (covers_refl t.overflow)) (covers_refl t.direction)
 
 flags-through : (t u s : Truths) → covers_flags t u ≡ true → covers_flags u s ≡ true → covers_flags t s ≡ true
 flags-through t u s e f =
     let e1 = first _ _ e in let e2 = first _ _ e1 in let e3 = first _ _ e2 in let e4 = first _ _ e3 in let e5 = first _ _ e4 in
     let f1 = first _ _ f in let f2 = first _ _ f1 in let f3 = first _ _ f2 in let f4 = first _ _ f3 in let f5 = first _ _ f4 in
-    both _ _ (both _ _ (both _ _ (both _ _ (both _ _ (both _ _
+    and_from _ _ (and_from _ _ (and_from _ _ (and_from _ _ (and_from _ _ (and_from _ _
     (truth-through t.carry u.carry s.carry (first _ _ e5) (first _ _ f5))
     (truth-through t.parity u.parity s.parity (rest _ _ e5) (rest _ _ f5)))
     (truth-through t.adjust u.adjust s.adjust (rest _ _ e4) (rest _ _ f4)))
@@ -136,12 +137,12 @@ flags-through t u s e f =
 
 note-own : (n : Option Note) → covers_note n n ≡ true
 note-own None = refl
-note-own (Some (Register r c)) = both _ _ (nat-refl r) (nat-refl c)
-note-own (Some (Word o c)) = both _ _ (int-refl o) (nat-refl c)
+note-own (Some (Register r c)) = and_from _ _ (nat-refl r) (nat-refl c)
+note-own (Some (Word o c)) = and_from _ _ (int-refl o) (nat-refl c)
 
 same_note-through : (a b c : Note) → same_note a b ≡ true → same_note b c ≡ true → same_note a c ≡ true
-same_note-through (Register r i) (Register q j) (Register p k) e f = both _ _ (nat-through r q p (first _ _ e) (first _ _ f)) (nat-through i j k (rest _ _ e) (rest _ _ f))
-same_note-through (Word r i) (Word q j) (Word p k) e f = both _ _ (int-through r q p (first _ _ e) (first _ _ f)) (nat-through i j k (rest _ _ e) (rest _ _ f))
+same_note-through (Register r i) (Register q j) (Register p k) e f = and_from _ _ (nat-through r q p (first _ _ e) (first _ _ f)) (nat-through i j k (rest _ _ e) (rest _ _ f))
+same_note-through (Word r i) (Word q j) (Word p k) e f = and_from _ _ (int-through r q p (first _ _ e) (first _ _ f)) (nat-through i j k (rest _ _ e) (rest _ _ f))
 same_note-through (Register r i) (Word q j) c e f = absurd (cc)
 same_note-through (Word r i) (Register q j) c e f = absurd (cc)
 same_note-through (Register r i) (Register q j) (Word p k) e f = absurd (cc)
@@ -154,12 +155,12 @@ note-through (Some a) (Some b) None e f = absurd (cc)
 note-through (Some a) (Some b) (Some c) e f = same_note-through a b c e f
 
 lies-own : (r : Dirty) → lies_in_one r r ≡ true
-lies-own r = both _ _ (same_area-refl r.area) (both _ _ (le-own r.low) (le-own (r.low +ℤ r.size)))
+lies-own r = and_from _ _ (same_area-refl r.area) (and_from _ _ (le-own r.low) (le-own (r.low +ℤ r.size)))
 
 lies-through : (r q p : Dirty) → lies_in_one r q ≡ true → lies_in_one q p ≡ true → lies_in_one r p ≡ true
 lies-through r q p e f =
-    both _ _ (area-through p.area q.area r.area (first _ _ f) (first _ _ e))
-    (both _ _ (le-through p.low q.low r.low (first _ _ (rest _ _ f)) (first _ _ (rest _ _ e)))
+    and_from _ _ (area-through p.area q.area r.area (first _ _ f) (first _ _ e))
+    (and_from _ _ (le-through p.low q.low r.low (first _ _ (rest _ _ f)) (first _ _ (rest _ _ e)))
     (le-through (r.low +ℤ r.size) (q.low +ℤ q.size) (p.low +ℤ p.size) (rest _ _ (rest _ _ e)) (rest _ _ (rest _ _ f))))
 
 many-own : (b : Bool) → (b || not b) ≡ true
@@ -172,21 +173,21 @@ many-through false true c e f = absurd (cc)
 many-through false false c e f = f
 
 counts-own : (c : Counted) → counts_below c c ≡ true
-counts-own c = both _ _ (same_region-refl c.region) (many-own c.many)
+counts-own c = and_from _ _ (same_region-refl c.region) (many-own c.many)
 
 counts-through : (a b c : Counted) → counts_below a b ≡ true → counts_below b c ≡ true → counts_below a c ≡ true
-counts-through a b c e f = both _ _ (region-through c.region b.region a.region (first _ _ f) (first _ _ e)) (many-through a.many b.many c.many (rest _ _ e) (rest _ _ f))
+counts-through a b c e f = and_from _ _ (region-through c.region b.region a.region (first _ _ f) (first _ _ e)) (many-through a.many b.many c.many (rest _ _ e) (rest _ _ f))
 
 module _ {D : Type 0} (d : Values D) (l : IsLawful d) where
   registers-own : (g : Regs D) → covers_registers d g g ≡ true
   registers-own g =
-      both _ _ (both _ _ (both _ _ (both _ _ (both _ _ (both _ _ (both _ _ (l.leq_refl g.eax) (l.leq_refl g.ecx)) (l.leq_refl g.edx)) (l.leq_refl g.ebx)) (l.leq_refl g.esp)) (l.leq_refl g.ebp)) (l.leq_refl g.esi)) (l.leq_refl g.edi)
+      and_from _ _ (and_from _ _ (and_from _ _ (and_from _ _ (and_from _ _ (and_from _ _ (and_from _ _ (l.leq_refl g.eax) (l.leq_refl g.ecx)) (l.leq_refl g.edx)) (l.leq_refl g.ebx)) (l.leq_refl g.esp)) (l.leq_refl g.ebp)) (l.leq_refl g.esi)) (l.leq_refl g.edi)
 
   registers-through : (t u s : Regs D) → covers_registers d t u ≡ true → covers_registers d u s ≡ true → covers_registers d t s ≡ true
   registers-through t u s e f =
       let e1 = first _ _ e in let e2 = first _ _ e1 in let e3 = first _ _ e2 in let e4 = first _ _ e3 in let e5 = first _ _ e4 in let e6 = first _ _ e5 in
       let f1 = first _ _ f in let f2 = first _ _ f1 in let f3 = first _ _ f2 in let f4 = first _ _ f3 in let f5 = first _ _ f4 in let f6 = first _ _ f5 in
-      both _ _ (both _ _ (both _ _ (both _ _ (both _ _ (both _ _ (both _ _
+      and_from _ _ (and_from _ _ (and_from _ _ (and_from _ _ (and_from _ _ (and_from _ _ (and_from _ _
       (l.leq_trans s.eax u.eax t.eax (first _ _ f6) (first _ _ e6))
       (l.leq_trans s.ecx u.ecx t.ecx (rest _ _ f6) (rest _ _ e6)))
       (l.leq_trans s.edx u.edx t.edx (rest _ _ f5) (rest _ _ e5)))
@@ -197,29 +198,29 @@ module _ {D : Type 0} (d : Values D) (l : IsLawful d) where
       (l.leq_trans s.edi u.edi t.edi (rest _ _ f) (rest _ _ e))
 
   fact-own : (f : Fact D) → is_below d f f ≡ true
-  fact-own f = both _ _ (both _ _ (same_area-refl f.area) (both _ _ (int-refl f.low) (nat-refl (bytes_of f.w)))) (l.leq_refl f.value)
+  fact-own f = and_from _ _ (and_from _ _ (same_area-refl f.area) (and_from _ _ (int-refl f.low) (nat-refl (bytes_of f.w)))) (l.leq_refl f.value)
 
   fact-through : (f g h : Fact D) → is_below d f g ≡ true → is_below d g h ≡ true → is_below d f h ≡ true
   fact-through f g h e k =
       let at = first _ _ e in
       let at' = first _ _ k in
-      both _ _ (both _ _ (area-through h.area g.area f.area (first _ _ at') (first _ _ at))
-      (both _ _ (int-through h.low g.low f.low (first _ _ (rest _ _ at')) (first _ _ (rest _ _ at)))
+      and_from _ _ (and_from _ _ (area-through h.area g.area f.area (first _ _ at') (first _ _ at))
+      (and_from _ _ (int-through h.low g.low f.low (first _ _ (rest _ _ at')) (first _ _ (rest _ _ at)))
       (nat-through (bytes_of h.w) (bytes_of g.w) (bytes_of f.w) (rest _ _ (rest _ _ at')) (rest _ _ (rest _ _ at)))))
       (l.leq_trans h.value g.value f.value (rest _ _ k) (rest _ _ e))
 
   parts-own : (h : PartsHeld D) → covers_held d h h ≡ true
-  parts-own h = both _ _ (each-own (is_below d) fact-own h.facts) (both _ _ (each-own lies_in_one lies-own h.dirty) (each-own counts_below counts-own h.blocks))
+  parts-own h = and_from _ _ (each-own (is_below d) fact-own h.facts) (and_from _ _ (each-own lies_in_one lies-own h.dirty) (each-own counts_below counts-own h.blocks))
 
   parts-through : (t u s : PartsHeld D) → covers_held d t u ≡ true → covers_held d u s ≡ true → covers_held d t s ≡ true
   parts-through t u s e f =
-      both _ _ (each-through (is_below d) fact-through t.facts u.facts s.facts (first _ _ e) (first _ _ f))
-      (both _ _ (each-through lies_in_one lies-through s.dirty u.dirty t.dirty (first _ _ (rest _ _ f)) (first _ _ (rest _ _ e)))
+      and_from _ _ (each-through (is_below d) fact-through t.facts u.facts s.facts (first _ _ e) (first _ _ f))
+      (and_from _ _ (each-through lies_in_one lies-through s.dirty u.dirty t.dirty (first _ _ (rest _ _ f)) (first _ _ (rest _ _ e)))
       (each-through counts_below counts-through t.blocks u.blocks s.blocks (rest _ _ (rest _ _ e)) (rest _ _ (rest _ _ f))))
 
   pub covers-own : (s : Known D) → covers_state d s s ≡ true
   unfolding covers_state
-  covers-own s = both _ _ (registers-own s.regs) (both _ _ (flags-own s.flags) (both _ _ (note-own s.note) (parts-own s.parts)))
+  covers-own s = and_from _ _ (registers-own s.regs) (and_from _ _ (flags-own s.flags) (and_from _ _ (note-own s.note) (parts-own s.parts)))
 
   -- the parts of covering
   record AreCovered (t s : Known D) : Type 0 where
@@ -244,6 +245,6 @@ module _ {D : Type 0} (d : Values D) (l : IsLawful d) where
   covers-through t u s e f =
       let a = covered_parts t u e in
       let b = covered_parts u s f in
-      both _ _ (registers-through t.regs u.regs s.regs a.registers b.registers)
-      (both _ _ (flags-through t.flags u.flags s.flags a.flags b.flags)
-      (both _ _ (note-through t.note u.note s.note a.note b.note) (parts-through t.parts u.parts s.parts a.parts b.parts)))
+      and_from _ _ (registers-through t.regs u.regs s.regs a.registers b.registers)
+      (and_from _ _ (flags-through t.flags u.flags s.flags a.flags b.flags)
+      (and_from _ _ (note-through t.note u.note s.note a.note b.note) (parts-through t.parts u.parts s.parts a.parts b.parts)))

@@ -26,10 +26,11 @@ use Rattle.abstract_state.specs.State.{IsWellState}
 use Rattle.abstract_state.specs.Widening.{seen_of}
 use Rattle.flow_worklist.specs.Analysis.{ImageAnalysis, ImageLog, analysis_of, image_log}
 use Rattle.flow_worklist.proofs.StepSound.{analysis_sound}
-use Rattle.abstract_state.proofs.Raising.{both, nat-refl, widening-is_sound}
+use Rattle.abstract_state.proofs.Raising.{nat-refl, widening-is_sound}
 use Rattle.table_check.specs.Closed.{broken_by, clause_broken, first_broken, is_covered, is_marked, starts}
 use Rattle.table_check.proofs.Answering.{broken-none, broken-open, first_by, test, unbroken-marked}
 use Rattle.table_check.proofs.Covering.{all_by, any_of, covers-own, covers-through}
+use Rattle.std.proofs.lemmas.Bool.{and_from}
 
 none_held : {X : Type 0} (xs : List X) → ((x : X) → Contains xs x → ⊥) → (length xs == 0) ≡ true
 none_held [] never = refl
@@ -69,7 +70,7 @@ module _ {S C W : Type 0} (a : Analysis S Edge C W) (IsWell : S → Type 0)
   covered : (pair : ℕ × S) → IsWell pair.1 → IsRepresented a rows pair.0 pair.1 → is_covered a marked rows pair ≡ true
   covered pair w r =
       any_of (λ (row : ℕ × S). row.0 == pair.0 && a.covers row.1 pair.1) rows (pair.0, r.row) r.in_rows
-      (both (pair.0 == pair.0) (a.covers r.row pair.1) (nat-refl pair.0) (covers_pair r.row pair.1 w r.stands))
+      (and_from (pair.0 == pair.0) (a.covers r.row pair.1) (nat-refl pair.0) (covers_pair r.row pair.1 w r.stands))
 
   row_unbroken : (k : ℕ) (row : ℕ × S) → slice_get rows k ≡ Some row → is_marked marked row.0 ≡ false → broken_by a marked rows row ≡ None
   row_unbroken k row at off =
@@ -80,7 +81,7 @@ module _ {S C W : Type 0} (a : Analysis S Edge C W) (IsWell : S → Type 0)
       (all_by (is_covered a marked rows) (a.expand row.0 row.1).next (λ pair h. covered pair (next_well row.0 row.1 pair w h) (done.has_next pair h)))
 
   starts_first : starts a marked rows (a.entry, a.start) ≡ true
-  starts_first = both (a.entry == a.entry) (a.covers a.start a.start) (nat-refl a.entry) (own a.start)
+  starts_first = and_from (a.entry == a.entry) (a.covers a.start a.start) (nat-refl a.entry) (own a.start)
 
   no_wrong_start : (k : ℕ) (row : ℕ × S) → slice_get rows k ≡ Some row → (k == 0 && not (starts a marked rows row)) ≡ false
   no_wrong_start zero row at =

@@ -52,10 +52,6 @@ lacks c text = list_all (λ b. not (is_byte c b)) text
 byte-same : (c : ℕ) → is_byte c c ≡ true
 byte-same c = grind (arith, nat_tests)
 
-from_not : (t : Bool) → not t ≡ true → t ≡ false
-from_not true e = absurd (cc)
-from_not false e = refl
-
 one-before : (n : ℕ) → 1 + n ≡ suc n
 one-before n = omega arith
 

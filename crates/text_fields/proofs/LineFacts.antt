@@ -8,6 +8,7 @@ use Rattle.std.proofs.lemmas.List.Sums.{prefix_len_passes, prefix_len-le-length}
 use Rattle.std.proofs.lemmas.List.Splits.{slice_split_none, slice_split_first, length-slice_split}
 use Rattle.text_fields.specs.declared.line_fault.LineFault.{LineFault}
 use Rattle.text_fields.specs.Lines.{Grammar, after_line, end_fault, lines, read_from}
+use Rattle.std.proofs.lemmas.Bool.{not-true}
 
 abbrev is_byte : ℕ → ℕ → Bool
 is_byte c b = b == c
@@ -28,14 +29,10 @@ split_at_place c text i e =
     let found : (position_or_len (is_byte c) text < length text) × (position_or_len (is_byte c) text ≡ i) = found_by (position_or_len (is_byte c) text) (length text) _ i refl e in
     rw (take_rest (i + 1) text, ← found.1) (slice_split_first (is_byte c) text 0 found.0)
 
-not_true : (b : Bool) → not b ≡ true → b ≡ false
-not_true true e = cc
-not_true false e = refl
-
 pub split_nowhere : (c : ℕ) (text : List ℕ) → position (is_byte c) text ≡ None → slice_split (is_byte c) text ≡ text ∷ []
 split_nowhere c text e =
     let beyond : length text ≤ position_or_len (is_byte c) text = missed_by (position_or_len (is_byte c) text) (length text) _ refl e in
-    slice_split_none (is_byte c) text (λ k d below. not_true (is_byte c (get_or text k d)) (prefix_len_passes (λ b. not (is_byte c b)) text k d (omega arith)))
+    slice_split_none (is_byte c) text (λ k d below. not-true (is_byte c (get_or text k d)) (prefix_len_passes (λ b. not (is_byte c b)) text k d (omega arith)))
 
 split_some : (c : ℕ) (text : List ℕ) → 0 < length (slice_split (is_byte c) text)
 split_some c text = omega (arith, length-slice_split (is_byte c) text)

@@ -25,6 +25,7 @@ use Rattle.x86_semantics.specs.Registers.{byte_part}
 use Rattle.x86_semantics.specs.declared.flag_rule.FlagRule.{FlagRule}
 use Rattle.x86_semantics.specs.declared.operation.Operation.TheVariants as does
 use Rattle.x86_semantics.specs.Widths.{fits_width, has_own_widths, has_place, has_width, is_count, is_place, is_register, is_value, is_within, is_width, width_of}
+use Rattle.abstract_state.proofs.Covering.{first, rest}
 use Rattle.transfer_functions.specs.Values.{MayWrite}
 
 counted-of : (blocks : List Counted) (o p q : Option Region) → ((s : Region) → o ≡ Some s → (p ≡ Some s) ⊎ (q ≡ Some s)) → HasCount blocks p → HasCount blocks q → HasCount blocks o
@@ -79,29 +80,21 @@ byte-lt r x y = byte-lt-if (nat_lt r 4) x y
 
 -- ---- the widths that operations have
 
-both-left : (a b : Bool) → (a && b) ≡ true → a ≡ true
-both-left true b e = refl
-both-left false b e = absurd (cc)
-
-both-right : (a b : Bool) → (a && b) ≡ true → b ≡ true
-both-right true b e = e
-both-right false b e = absurd (cc)
-
 pub combine-place : (op : Op) (rule : FlagRule) (w : Width) (to from : Operand) → has_own_widths (does.Combine op rule w to from) ≡ true → has_place w to ≡ true
 unfolding has_own_widths
-combine-place op rule w to from e = both-left (has_place w to) (has_width w from) e
+combine-place op rule w to from e = first (has_place w to) (has_width w from) e
 
 pub carry-place : (op : Op) (rule : FlagRule) (w : Width) (to from : Operand) → has_own_widths (does.Carry op rule w to from) ≡ true → has_place w to ≡ true
 unfolding has_own_widths
-carry-place op rule w to from e = both-left (has_place w to) (has_width w from) e
+carry-place op rule w to from e = first (has_place w to) (has_width w from) e
 
 pub shift-place : (op : Op) (rule : FlagRule) (w : Width) (to count : Operand) → has_own_widths (does.Shift op rule w to count) ≡ true → has_place w to ≡ true
 unfolding has_own_widths
-shift-place op rule w to count e = both-left (has_place w to) (is_count count) e
+shift-place op rule w to count e = first (has_place w to) (is_count count) e
 
 pub convert-place : (op : Op) (w : Width) (to from : Operand) (by : ℕ) → has_own_widths (does.Convert op w to from by) ≡ true → has_place w to ≡ true
 unfolding has_own_widths
-convert-place op w to from by e = both-left (has_place w to) (fits_width w from) e
+convert-place op w to from by e = first (has_place w to) (fits_width w from) e
 
 pub exchange-place : (place : Operand) (w : Width) (r : ℕ) → has_own_widths (does.Exchange place w r) ≡ true → has_place w place ≡ true
 unfolding has_own_widths
@@ -109,7 +102,7 @@ exchange-place place w r e = e
 
 pub double_shift-place : (op other : Op) (rule : FlagRule) (w : Width) (to : Operand) (r : ℕ) (count : Operand) → has_own_widths (does.DoubleShift op other rule w to r count) ≡ true → has_place w to ≡ true
 unfolding has_own_widths
-double_shift-place op other rule w to r count e = both-left (has_place w to) (is_count count) e
+double_shift-place op other rule w to r count e = first (has_place w to) (is_count count) e
 
 pub compare_exchange-place : (place : Operand) (w : Width) (r : ℕ) → has_own_widths (does.CompareExchange place w r) ≡ true → has_place w place ≡ true
 unfolding has_own_widths
@@ -130,16 +123,16 @@ set-place c to e = e
 -- a source of MOV is no wider than the destination, and one of CMOVcc as wide
 pub move-within : (to from : Operand) → has_own_widths (does.Move to from) ≡ true → is_within (width_of from) (width_of to) ≡ true
 unfolding has_own_widths
-move-within to from e = both-right (is_value from) (is_within (width_of from) (width_of to)) (both-right (is_place to) (fits_width (width_of to) from) e)
+move-within to from e = rest (is_value from) (is_within (width_of from) (width_of to)) (rest (is_place to) (fits_width (width_of to) from) e)
 
 pub move_if-width : (c : Cond) (to from : Operand) → has_own_widths (does.MoveIf c to from) ≡ true → is_width (width_of from) (width_of to) ≡ true
 unfolding has_own_widths
-move_if-width c to from e = both-right (is_value from) (is_width (width_of from) (width_of to)) (both-right (is_place to) (has_width (width_of to) from) e)
+move_if-width c to from e = rest (is_value from) (is_width (width_of from) (width_of to)) (rest (is_place to) (has_width (width_of to) from) e)
 
 -- LEA writes a register
 pub lea-register : (to : Operand) (a : Address) → has_own_widths (does.Lea to a) ≡ true → is_register to ≡ true
 unfolding has_own_widths
-lea-register to a e = both-left (is_register to) (has_place B16 to || has_place B32 to) e
+lea-register to a e = first (is_register to) (has_place B16 to || has_place B32 to) e
 
 module _ {D : Type 0} (d : Values D) (blocks : List Counted) where
   -- what may be held at a width may be held at a wider one
@@ -197,7 +190,7 @@ module _ {D : Type 0} (d : Values D) (blocks : List Counted) where
 
   -- what was read of a place of a width
   pub place-holds : (w : Width) (o : Operand) (x : D) → has_place w o ≡ true → MayHold d blocks (width_of o) x → MayHold d blocks w x
-  place-holds w o x e h = holds-within (width_of o) w x (width-within (width_of o) w (both-right (is_place o) (is_width (width_of o) w) e)) h
+  place-holds w o x e h = holds-within (width_of o) w x (width-within (width_of o) w (rest (is_place o) (is_width (width_of o) w) e)) h
 
   pub write-width : (v : Width) (to : Operand) (x : D) → is_width v (width_of to) ≡ true → MayHold d blocks v x → MayWrite d blocks to x
   write-width v to x e h = write-within v to x (width-within v (width_of to) e) h

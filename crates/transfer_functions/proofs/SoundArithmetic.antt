@@ -19,7 +19,7 @@ use Rattle.abstract_state.specs.declared.note.Note.TheVariants as notes
 use Rattle.abstract_state.specs.Describes.{AreOfComparison, NoteStands, byte_in}
 use Rattle.abstract_state.specs.Notes.{IsWellNote}
 use Rattle.abstract_state.specs.State.{with_note}
-use Rattle.std.proofs.lemmas.Bool.{and_parts, eqb-true}
+use Rattle.std.proofs.lemmas.Bool.{and_parts, eqb-true, and_from}
 use Rattle.address_regions.specs.Extents.{low_of, high_of}
 use Rattle.address_regions.specs.Places.{Places, place_at}
 use Rattle.partitioned_memory.specs.declared.area.Area.TheVariants.{In}
@@ -89,11 +89,7 @@ place_is_value (Offset o) e = cc
 
 -- a place of a width is a value of it
 pub place_has_width : (w : Width) (o : Operand) → has_place w o ≡ true → has_width w o ≡ true
-place_has_width w o e = let parts = and_parts (is_place o) (is_width (width_of o) w) e in both_hold (is_value o) _ (place_is_value o parts.0) parts.1
-  where
-    both_hold : (a b : Bool) → a ≡ true → b ≡ true → (a && b) ≡ true
-    both_hold true b e k = k
-    both_hold false b e k = cc
+place_has_width w o e = let parts = and_parts (is_place o) (is_width (width_of o) w) e in and_from (is_value o) _ (place_is_value o parts.0) parts.1
 
 -- what follows two reads
 module _ {D : Type 0} (d : Values D) (image : Image) where

@@ -2,7 +2,7 @@
 use Rattle.std.proofs.Common.{◌≡◌, ℕ, ◌<◌, Bool, true, false, List, [], ◌∷◌, ◌++◌, length, refl, sym, ◌∙◌, ap, arith, inl, inr}
 use Rattle.std.specs.Prelude.{◌&&◌, ◌||◌, nat_le, replicate, All}
 use Rattle.std.specs.List.{list_all}
-use Rattle.std.proofs.lemmas.Bool.{and_from, and_parts, cases_Bool, false≢true}
+use Rattle.std.proofs.lemmas.Bool.{and_from, and_parts, cases_Bool, false≢true, and_right}
 use Rattle.std.proofs.lemmas.List.{length-replicate}
 use Rattle.std.proofs.lemmas.List.Elements.{All-replicate}
 use Rattle.std.proofs.lemmas.List.Folds.{list_all-append}
@@ -32,10 +32,6 @@ or_turned false false = refl
 pub clear_is_apart : (x r : Range) → are_apart x r ≡ is_clear r.low (end_of r) x
 clear_is_apart x r = or_turned (nat_le (end_of x) r.low) (nat_le (end_of r) x.low)
 
-and_stops : (a b : Bool) → b ≡ false → (a && b) ≡ false
-and_stops true b e = e
-and_stops false b e = refl
-
 pub apart_more : (xs : List Range) (r : Range) → all_apart xs ≡ true → list_all (is_clear r.low (end_of r)) xs ≡ true → all_apart (xs ++ r ∷ []) ≡ true
 apart_more [] r apart clear = all_apart-cons r [] ∙ all_apart-nil
 apart_more (x ∷ xs) r apart clear =
@@ -52,11 +48,11 @@ not_apart (x ∷ xs) ys r off =
     elim (cases_Bool (is_clear r.low (end_of r) x)) [
       | inl here ↦
           let rest : list_all (is_clear r.low (end_of r)) xs ≡ false = sym (ap (λ b. b && list_all (is_clear r.low (end_of r)) xs) here) ∙ off in
-          all_apart-cons x (xs ++ r ∷ ys) ∙ and_stops (list_all (are_apart x) (xs ++ r ∷ ys)) _ (not_apart xs ys r rest)
+          all_apart-cons x (xs ++ r ∷ ys) ∙ and_right (list_all (are_apart x) (xs ++ r ∷ ys)) _ (not_apart xs ys r rest)
       | inr shares ↦
           all_apart-cons x (xs ++ r ∷ ys)
           ∙ ap (λ b. b && all_apart (xs ++ r ∷ ys))
-          (list_all-append (are_apart x) xs (r ∷ ys) ∙ and_stops (list_all (are_apart x) xs) _ (ap (λ b. b && list_all (are_apart x) ys) (clear_is_apart x r ∙ shares)))
+          (list_all-append (are_apart x) xs (r ∷ ys) ∙ and_right (list_all (are_apart x) xs) _ (ap (λ b. b && list_all (are_apart x) ys) (clear_is_apart x r ∙ shares)))
     ]
 
 by_first : (a b : Bool) → (a && b) ≡ false → b ≡ true → a ≡ false
@@ -71,5 +67,5 @@ front_apart (x ∷ xs) ys off =
       | inl apart ↦
           let own : list_all (are_apart x) xs ≡ false = by_first (list_all (are_apart x) xs) (all_apart xs) (sym (all_apart-cons x xs) ∙ off) apart in
           all_apart-cons x (xs ++ ys) ∙ ap (λ b. b && all_apart (xs ++ ys)) (list_all-append (are_apart x) xs ys ∙ ap (λ b. b && list_all (are_apart x) ys) own)
-      | inr shares ↦ all_apart-cons x (xs ++ ys) ∙ and_stops (list_all (are_apart x) (xs ++ ys)) _ (front_apart xs ys shares)
+      | inr shares ↦ all_apart-cons x (xs ++ ys) ∙ and_right (list_all (are_apart x) (xs ++ ys)) _ (front_apart xs ys shares)
     ]

@@ -3,7 +3,7 @@ use Rattle.std.proofs.Common.{◌≡◌, ℕ, zero, suc, ◌+◌, ◌-◌, ◌%�
 use Rattle.std.specs.Prelude.{◌⊎◌, ◌||◌, not, nat_le, nat_lt, position, slice_get, slice_index, slice_set, All, IsTrue}
 use Rattle.std.specs.List.{AllZip, enumerate_from, list_all, list_any, position_or_len, range_with_len}
 use Rattle.std.specs.Option.{option_map}
-use Rattle.std.proofs.lemmas.Bool.{and_from, and_parts, cases_Bool, cases_lt, eqb-true, false≢true, le-leb, lt-ltb, ltb-false, or_cases, or_left, or_right}
+use Rattle.std.proofs.lemmas.Bool.{and_from, and_parts, cases_Bool, cases_lt, eqb-true, false≢true, le-leb, lt-ltb, ltb-false, or_cases, or_left, or_right, not-false}
 use Rattle.std.proofs.lemmas.List.{append_assoc, get_or-append-add, get_or_append_left, get_or_at, length-append, map-append}
 use Rattle.std.proofs.lemmas.List.Elements.{All-append, All-cons, All-head, All-map, All-nil, All-set, All-tail, All-weaker}
 use Rattle.std.proofs.lemmas.List.Sums.{fails_before_first, list_all-from_AllPass}
@@ -48,10 +48,6 @@ clear_parts true true false p e = cc
 clear_parts true false c p e = cc
 clear_parts false b c p e = cc
 
-not_false : (b : Bool) → not b ≡ false → b ≡ true
-not_false true e = refl
-not_false false e = cc
-
 pub no_position : {X : Type 0} (q : X → Bool) (xs : List X) → position (λ x. not (q x)) xs ≡ None → list_all q xs ≡ true
 no_position q xs none =
     elim (cases_Bool (nat_lt (position_or_len (λ x. not (q x)) xs) (length xs))) [
@@ -61,7 +57,7 @@ no_position q xs none =
           cc
       | inr past ↦
           let long = ltb-false (position_or_len (λ x. not (q x)) xs) (length xs) past in
-          list_all-from_AllPass q xs (λ k d within. not_false _ (fails_before_first (λ x. not (q x)) xs k d (omega (arith, within, long))))
+          list_all-from_AllPass q xs (λ k d within. not-false _ (fails_before_first (λ x. not (q x)) xs k d (omega (arith, within, long))))
     ]
 
 clear_is : (image : Image) (s : StartFile) → start_fault image s ≡ None → IsClear image s

@@ -1,6 +1,6 @@
 -- Facts of the opcode table, each by one computation over its rows.
 use Rattle.std.proofs.Common.{◌≡◌, ℕ, ◌≤◌, List, [], ◌∷◌, Bool, true, false, cond, refl, sym, Option, Some, None, arith}
-use Rattle.std.proofs.lemmas.Bool.{and_parts, and_from, leb-true, le-leb}
+use Rattle.std.proofs.lemmas.Bool.{and_parts, and_from, leb-true, le-leb, not-true}
 use Rattle.std.specs.Prelude.{find, nat_le, not, ◌&&◌, ◌||◌}
 use Rattle.std.specs.List.{list_all}
 use Rattle.x86_syntax.specs.declared.prefixes.Group.{Group}
@@ -93,15 +93,11 @@ all_one_kind : list_all is_one_kind ROWS ≡ true
 unfolding is_one_kind
 all_one_kind = refl
 
-turned : (a : Bool) → not a ≡ true → a ≡ false
-turned true h = cc
-turned false h = refl
-
 one_kind : (group : Group) (row : Row) → group_listed group row ≡ true → not row.lock ≡ true → not (is_m row.forms.second) ≡ true → (is_lock group || is_m row.forms.second) ≡ false
 one_kind Lock row listed lock memory = absurd (refuted row.lock lock listed)
-one_kind Empty row listed lock memory = turned (is_m row.forms.second) memory
-one_kind Rep row listed lock memory = turned (is_m row.forms.second) memory
-one_kind Repne row listed lock memory = turned (is_m row.forms.second) memory
+one_kind Empty row listed lock memory = not-true (is_m row.forms.second) memory
+one_kind Rep row listed lock memory = not-true (is_m row.forms.second) memory
+one_kind Repne row listed lock memory = not-true (is_m row.forms.second) memory
 
 pub row_kind : (p : Prefixes) (map : Map) (code reg : ℕ) (row : Row) → row_of p map code reg ≡ Some row → needs_register row ≡ true → needs_memory p row ≡ false
 unfolding row_of is_one_kind
