@@ -38,10 +38,13 @@ module _ (r later : Reading) (is : IsLater r later) where
   unread_later (Made made) unread = unread
 
   refused_later : (s : Source) (status : Status) → IsRefusedAt later s status → IsRefusedAt r s status
-  refused_later s status (inl why) = inl (why.0, unread_later s.origin why.1)
+  refused_later s status (inl (inl why)) = inl (inl (why.0, unread_later s.origin why.1))
   refused_later s status (inr why) =
       let P : Option Contents → Type 0 = λ held. IsRefusedAt (record { held = held; faults_before = r.faults_before; faults_after = r.faults_after }) s status in
       subst P is.held (inr why)
+  refused_later s status (inl (inr why)) =
+      let P : Option Contents → Type 0 = λ held. IsRefusedAt (record { held = held; faults_before = r.faults_before; faults_after = r.faults_after }) s status in
+      subst P is.held (inl (inr why))
 
   pub are_refused_later : (sources : List Source) (status : Status) → AreRefused later sources status → AreRefused r sources status
   are_refused_later [] status why = why
@@ -125,4 +128,4 @@ module _ (r : Reading) (command : Command) where
 -- the stubs of a demo image are refused
 pub demo_stubs_refused : (r : Reading) (text : List ℕ) (status : Status) → text ≡ demo_stubs → OrMemory (IsFaulty StubFile text) status → OrMemory (AreRefused r (stub_sources (Some (Made demo_stubs)))) status
 demo_stubs_refused r text status is (inl memory) = inl memory
-demo_stubs_refused r text status is (inr why) = inr (inl (inr (inr (text, is, why))))
+demo_stubs_refused r text status is (inr why) = inr (inl (inr (text, is, why)))

@@ -63,9 +63,9 @@ faulty_status RecordText bytes status h = place_status status h.0 h.2
 faulty_status TableText bytes status h = absurd h
 
 refused_status : (r : Reading) (s : Source) (status : Status) → IsRefusedAt r s status → is_of_input status ≡ true
-refused_status r s status (inl h) = ap is_of_input h.0
-refused_status r s status (inr (inl h)) = ap is_of_input h.0
-refused_status r s status (inr (inr h)) = faulty_status s.kind h.0 status h.2
+refused_status r s status (inl (inl h)) = ap is_of_input h.0
+refused_status r s status (inl (inr h)) = ap is_of_input h.0
+refused_status r s status (inr h) = faulty_status s.kind h.0 status h.2
 
 among_status : (r : Reading) (sources : List Source) (status : Status) → AreRefused r sources status → is_of_input status ≡ true
 among_status r [] status h = absurd h
@@ -168,9 +168,9 @@ module _ (r : Reading) where
 
   held_not_refused : (sources : List Source) → AreHeld r sources → (status : Status) → AreRefused r sources status → ⊥
   held_not_refused [] h status why = why
-  held_not_refused (s ∷ rest) h status (inl (inl why)) = held_read (limit_of s.input) s.kind s.origin h.0 why.1
-  held_not_refused (s ∷ rest) h status (inl (inr (inl why))) = held_short (limit_of s.input) s.kind s.origin h.0 why.1
-  held_not_refused (s ∷ rest) h status (inl (inr (inr why))) = held_faultless (limit_of s.input) s.kind s.origin h.0 why.0 why.1 status why.2
+  held_not_refused (s ∷ rest) h status (inl (inl (inl why))) = held_read (limit_of s.input) s.kind s.origin h.0 why.1
+  held_not_refused (s ∷ rest) h status (inl (inl (inr why))) = held_short (limit_of s.input) s.kind s.origin h.0 why.1
+  held_not_refused (s ∷ rest) h status (inl (inr why)) = held_faultless (limit_of s.input) s.kind s.origin h.0 why.0 why.1 status why.2
   held_not_refused (s ∷ rest) h status (inr why) = held_not_refused rest h.1 status why.1
 
 module _ (a : Call) (out : Gain) (f : IsFaultless a out) where

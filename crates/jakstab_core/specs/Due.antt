@@ -5,9 +5,8 @@ use Rattle.memory_map.specs.Image.{Image, IsLoaded}
 use Rattle.stub_file.specs.Stubs.{StatedStubs}
 use Rattle.image_loader.specs.Loading.{LaidOut}
 use Rattle.image_loader.specs.Binding.{image_of}
-use Rattle.jakstab_core.specs.declared.status.Input.{Input}
 use Rattle.jakstab_core.specs.declared.status.Status.{Status}
-use Rattle.jakstab_core.specs.declared.status.Status.TheVariants.{Done, VerdictNo, WriteFault, ReadFault, TooLong, Memory, InputRefused}
+use Rattle.jakstab_core.specs.declared.status.Status.TheVariants.{Done, VerdictNo, WriteFault, Memory, InputRefused}
 use Rattle.jakstab_core.specs.declared.work.Output.{Output}
 use Rattle.jakstab_core.specs.declared.work.Work.{Work}
 use Rattle.jakstab_core.specs.declared.work.Work.TheVariants as works
@@ -18,16 +17,12 @@ use Rattle.x86_machine.specs.declared.start_fault.StartFault.{StartFault}
 use Rattle.x86_machine.specs.declared.start_fault.StartFault.TheVariants.{Fill}
 use Rattle.run_replayer.specs.declared.run_fault.RunFault.{RunFault}
 use Rattle.run_replayer.specs.declared.run_fault.RunFault.TheVariants as run_faults
-use Rattle.jakstab_core.specs.Inputs.{Reading, File, IsUnread, IsTooLong, limit_of, start_place}
+use Rattle.jakstab_core.specs.Inputs.{start_place}
 use Rattle.jakstab_core.specs.Says.{Gain}
 
 -- memory was wanting, or this is so of the status
 abbrev pub OrMemory : (Status → Type 0) → Status → Type 0
 OrMemory Refused status = (status ≡ Memory) ⊎ Refused status
-
--- why a file is not read
-abbrev pub IsUnavailable : Reading → Input → List ℕ → Status → Type 0
-IsUnavailable r input name status = ((status ≡ ReadFault input) × IsUnread r (File name)) ⊎ ((status ≡ TooLong input) × IsTooLong r.held (limit_of input) (File name))
 
 -- the status of a text that is refused
 abbrev pub text_status : TextFault → Status

@@ -170,12 +170,13 @@ IsFaulty AutomatonText bytes status = IsBadLine (automaton_read bytes) status
 IsFaulty RecordText bytes status = IsBadLine (record_read bytes) status
 IsFaulty TableText bytes status = ⊥
 
--- an input is refused since it was not read, is too long, or is faulty
+-- an input is not read, or is too long, which a status tells
+abbrev pub IsUnavailable : Reading → Input → Origin → Status → Type 0
+IsUnavailable r input origin status = ((status ≡ ReadFault input) × IsUnread r origin) ⊎ ((status ≡ TooLong input) × IsTooLong r.held (limit_of input) origin)
+
+-- an input is refused since it is unavailable or faulty
 abbrev pub IsRefusedAt : Reading → Source → Status → Type 0
-IsRefusedAt r s status =
-    ((status ≡ ReadFault s.input) × IsUnread r s.origin)
-    ⊎ ((status ≡ TooLong s.input) × IsTooLong r.held (limit_of s.input) s.origin)
-    ⊎ OfBytes r.held (limit_of s.input) s.origin (λ bytes. IsFaulty s.kind bytes status)
+IsRefusedAt r s status = IsUnavailable r s.input s.origin status ⊎ OfBytes r.held (limit_of s.input) s.origin (λ bytes. IsFaulty s.kind bytes status)
 
 -- inputs are refused at one of them, before which all are fine
 abbrev pub AreRefused : Reading → List Source → Status → Type 0

@@ -6,8 +6,8 @@ ghost use Rattle.automaton_text.specs.Reading.{automaton_read};
 ghost use Rattle.run_replayer.specs.Grammar.{StatesRecord, StatesStart};
 ghost use Rattle.command_words.specs.Reader.{task_of};
 ghost use Rattle.jakstab_core.specs.declared.status.Input.TheVariants as inputs;
-ghost use Rattle.jakstab_core.specs.Due.{IsFew, IsUnavailable, OrMemory, text_status};
-ghost use Rattle.jakstab_core.specs.Inputs.{AreRefused, File, ImageFile, IsFaulty, IsRefusedAt, OfBytes, StubFile, automaton_source, image_source, limit_of, named_file, record_source, start_source, stub_number, stub_sources, task_sources};
+ghost use Rattle.jakstab_core.specs.Due.{IsFew, OrMemory, text_status};
+ghost use Rattle.jakstab_core.specs.Inputs.{AreRefused, File, ImageFile, IsFaulty, IsRefusedAt, IsUnavailable, OfBytes, StubFile, automaton_source, image_source, limit_of, named_file, record_source, start_source, stub_number, stub_sources, task_sources};
 ghost use Rattle.jakstab_core.specs.Tasks.{AreStubs, IsTaskWork};
 
 use crate::work::Work;
@@ -145,7 +145,7 @@ fn read_file<S: Shelf>(
     name: &str,
     input: Input,
 ) -> Result<Vec<u8>, Status>
-    ensures read { MatchResult result (λ bytes. IsWhole (S.contents shelf.old) name.now (limit_of input) bytes.items) (OrMemory (IsUnavailable (record { held = S.contents shelf.old; faults_before = S.faults shelf.old; faults_after = S.faults shelf.new }) input name.now)) }
+    ensures read { MatchResult result (λ bytes. IsWhole (S.contents shelf.old) name.now (limit_of input) bytes.items) (OrMemory (IsUnavailable (record { held = S.contents shelf.old; faults_before = S.faults shelf.old; faults_after = S.faults shelf.new }) input (File name.now))) }
     ensures contents { S.contents shelf.new ≡ S.contents shelf.old }
     ensures rising { (other : List ℕ) → S.faults shelf.old other ≤ S.faults shelf.new other }
 {
