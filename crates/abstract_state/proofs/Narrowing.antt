@@ -30,7 +30,7 @@ use Rattle.partitioned_memory.specs.declared.area.Area.TheVariants.{In}
 use Rattle.partitioned_memory.specs.declared.fact.Counted.{Counted}
 use Rattle.partitioned_memory.specs.declared.fact.Dirty.{Dirty}
 use Rattle.partitioned_memory.specs.Describes.{number_in}
-use Rattle.partitioned_memory.specs.Held.{after_exact, found, is_dirty, joined, known_byte, known_half, known_number, value_read}
+use Rattle.partitioned_memory.specs.Held.{after_exact, found, is_dirty, low_with_high, known_byte, known_half, known_number, value_read}
 use Rattle.partitioned_memory.specs.Lists.{Every}
 use Rattle.partitioned_memory.specs.Well.{MayHold}
 use Rattle.partitioned_memory.proofs.FactsKept.{exact-keeps}
@@ -257,7 +257,7 @@ stack-unknown ranges unset dirty o = elim (is_dirty (In Stack) o dirty) as (λ b
 word-unknown : (ranges : List Range) (unset : List Span) (dirty : List Dirty) (o : ℤ) → known_number (known_byte ranges unset dirty (In Stack)) o B32 ≡ None
 word-unknown ranges unset dirty o =
     let look = known_byte ranges unset dirty (In Stack) in
-    ap (λ (x : Option ℕ). joined 65536 (joined 256 x (look (o +ℤ pos 1))) (known_half look (o +ℤ pos 2))) (stack-unknown ranges unset dirty o)
+    ap (λ (x : Option ℕ). low_with_high 65536 (low_with_high 256 x (look (o +ℤ pos 1))) (known_half look (o +ℤ pos 2))) (stack-unknown ranges unset dirty o)
 
 module _ {D : Type 0} (d : Values D) (l : IsLawful d) where
   stack-value_holds : (image : Image) (o : ℤ) (s : Known D) → IsWellState d s → MayHold d s.parts.blocks B32 (value_at d image (In Stack) o B32 s)

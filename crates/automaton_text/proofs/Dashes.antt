@@ -14,7 +14,7 @@ use Rattle.automaton_text.specs.declared.automaton.Automaton.{Automaton}
 use Rattle.automaton_text.specs.declared.stage.Stage.TheVariants as stages
 use Rattle.automaton_text.specs.Laws.{DashesAreRefused, fits_location, fits_name, has_any_name, has_dash, is_word}
 use Rattle.automaton_text.specs.Orderly.{has_own_name, is_location_above}
-use Rattle.automaton_text.specs.Reading.{Reading, automaton_grammar, automaton_read, automaton_step, has_own_suffix, is_above, is_named, location_or_later_step, location_step, nothing, own_name, told}
+use Rattle.automaton_text.specs.Reading.{AutomatonSoFar, automaton_grammar, automaton_read, automaton_step, has_own_suffix, is_above, is_named, location_or_later_step, location_step, nothing, own_name, told}
 use Rattle.automaton_text.specs.Text.{edge_line, end_line, entry_line, header_line, import_suffix, loc_line, open_line, suffix_of, text_of}
 use Rattle.automaton_text.proofs.FieldsTold.{import_text, suffix_list}
 use Rattle.automaton_text.proofs.ReadBack.{clear_is, entry_reached, goes_behind, goes_from_none, goes_on, header_reached, location_line, location_reached, location_read}
@@ -22,7 +22,7 @@ use Rattle.automaton_text.proofs.Told.{reading}
 use Rattle.std.proofs.lemmas.Bool.{and_parts}
 
 -- reading a text from this line on is refused for what some line says
-abbrev IsRefused : ℕ → Reading → List ℕ → Type 0
+abbrev IsRefused : ℕ → AutomatonSoFar → List ℕ → Type 0
 IsRefused n s text = (m : ℕ) × (read_from automaton_grammar n s (lines text) ≡ Err (record { line = m; kind = CONTENT }))
 
 -- the location of an import with the name `-` is none of the exit place
@@ -41,9 +41,9 @@ dash_refused v e ls l behind n fits named dash above =
     let other : has_own_suffix l.at l.name ≡ false = ap (λ t. if t then is_named (codes "-") l.name else not (is_named (codes "-") l.name)) exit ∙ ap not dash in
     let line = location_line l l.name text parts.1 in
     let own : List ℕ = codes "loc " ++ hex8 l.at ++ suffix_of l in
-    let r : Reading = reading stages.Locations v e ls [] [] [] in
-    let more : Result Reading ℕ = Ok (reading stages.Locations v e (ls ++ record { at = l.at; name = own_name l.at l.name } ∷ []) [] [] []) in
-    let go : ℕ × Option (List ℕ) → Result Reading ℕ = λ p. location_step r p.0 p.1 in
+    let r : AutomatonSoFar = reading stages.Locations v e ls [] [] [] in
+    let more : Result AutomatonSoFar ℕ = Ok (reading stages.Locations v e (ls ++ record { at = l.at; name = own_name l.at l.name } ∷ []) [] [] []) in
+    let go : ℕ × Option (List ℕ) → Result AutomatonSoFar ℕ = λ p. location_step r p.0 p.1 in
     let refused : automaton_step r own ≡ Err CONTENT =
     ap (location_or_later_step r own) line.0
     ∙ ap (λ o. or_fault FIELD o go) (location_read l.at l.name parts.0 parts.1)
@@ -92,8 +92,8 @@ dashes a fits is some =
     let v = a.version in
     let e = a.entry in
     let ls = a.locations in
-    let h : Reading = reading stages.Header v 0 [] [] [] [] in
-    let p : Reading = reading stages.Locations v e [] [] [] [] in
+    let h : AutomatonSoFar = reading stages.Header v 0 [] [] [] [] in
+    let p : AutomatonSoFar = reading stages.Locations v e [] [] [] [] in
     let last : List ℕ = end_line (length a.locations) (length a.edges) (length a.marks) in
     let behind : List ℕ = (flat_map edge_line a.edges ++ flat_map open_line a.marks) ++ last in
     let one : Reaches automaton_grammar nothing (header_line v ++ entry_line e) p = reaches_both automaton_grammar nothing h p (header_line v) (entry_line e) (header_reached v is.version) (entry_reached v e fits.entry) in

@@ -18,7 +18,7 @@ use Rattle.flow_log.specs.declared.cause.Cause.{Cause}
 use Rattle.automaton_text.specs.declared.automaton.Location.{Location}
 use Rattle.automaton_text.specs.declared.automaton.OpenMark.{OpenMark}
 use Rattle.automaton_text.specs.Orderly.{has_own_name}
-use Rattle.automaton_text.specs.Reading.{Reading, all_causes, cause_of, code_fields, count_fields, end_fields, has_own_suffix, import_fields, is_named, location_fields, mark_fields, name_of, own_name, row_fields, row_of, suffix_fields, text_fields, version_of}
+use Rattle.automaton_text.specs.Reading.{AutomatonSoFar, all_causes, cause_of, code_fields, count_fields, end_fields, has_own_suffix, import_fields, is_named, location_fields, mark_fields, name_of, own_name, row_fields, row_of, suffix_fields, text_fields, version_of}
 use Rattle.automaton_text.specs.Text.{cause_text, end_line, entry_line, header_line, import_suffix, is_version, loc_line, row_suffix, suffix_of}
 use Rattle.std.proofs.lemmas.Bool.{and_parts}
 use Rattle.text_fields.proofs.Found.{mapped, chained, same_word}
@@ -185,7 +185,7 @@ mark_told version fs m h =
 
 -- ---- the end
 
-pub counts_told : (r : Reading) (fs : List (List ℕ)) → length r.locations < 2 ^ 64 → length r.edges < 2 ^ 64 → length r.marks < 2 ^ 64
+pub counts_told : (r : AutomatonSoFar) (fs : List (List ℕ)) → length r.locations < 2 ^ 64 → length r.edges < 2 ^ 64 → length r.marks < 2 ^ 64
     → count_fields r fs ≡ Some true → fs ≡ decimal (length r.locations) ∷ decimal (length r.edges) ∷ decimal (length r.marks) ∷ []
 unfolding count_fields
 counts_told r fs few fewer fewest h =

@@ -34,7 +34,7 @@ use Rattle.automaton_text.specs.declared.stage.Stage.{Stage}
 use Rattle.automaton_text.specs.declared.stage.Stage.TheVariants as stages
 use Rattle.automaton_text.specs.Laws.{OrderlyAutomataAreReadBack, fits_edge, fits_label, fits_location, fits_mark, fits_name, fits_row, is_word}
 use Rattle.automaton_text.specs.Orderly.{IsOrderly, ascend, edge_text, has_own_name, is_edge_above, is_edge_among, is_label_at, is_location_above, is_opening_above}
-use Rattle.automaton_text.specs.Reading.{NO_ENTRY, Reading, all_causes, automaton_grammar, automaton_read, automaton_step, cause_of, code_fields, code_step, count_fields, edge_step, end_fields, end_step, entry_step, has_own_suffix, header_step, import_fields, import_step, is_above, is_code, is_line_above, is_location, is_mark_above, is_marks, is_named, is_over, is_place_of, label_step, later_step, location_fields, location_or_later_step, location_step, mark_fields, mark_step, name_of, nothing, own_name, row_fields, row_of, suffix_fields, text_fields, told, version_of}
+use Rattle.automaton_text.specs.Reading.{NO_ENTRY, AutomatonSoFar, all_causes, automaton_grammar, automaton_read, automaton_step, cause_of, code_fields, code_step, count_fields, edge_step, end_fields, end_step, entry_step, has_own_suffix, header_step, import_fields, import_step, is_above, is_code, is_line_above, is_location, is_mark_above, is_marks, is_named, is_over, is_place_of, label_step, later_step, location_fields, location_or_later_step, location_step, mark_fields, mark_step, name_of, nothing, own_name, row_fields, row_of, suffix_fields, text_fields, told, version_of}
 use Rattle.automaton_text.specs.Text.{HaveRowsBy, cause_text, code_text, edge_line, end_line, entry_line, header_line, import_suffix, is_version, label_text, loc_line, open_line, row_suffix, suffix_of, text_of}
 use Rattle.automaton_text.proofs.ClearTexts.{clear_both, clear_code, is_clear, is_plain, plain_bytes, plain_cause, plain_clear, plain_decimal, plain_is, plain_name, plain_word}
 use Rattle.automaton_text.proofs.FieldsTold.{import_text, row_list, suffix_list}
@@ -197,8 +197,8 @@ location_reached v e ls l fits named above =
     let parts : (is_word l.at ≡ true) × (fits_name l.name ≡ true) = and_parts (is_word l.at) (fits_name l.name) fits in
     let own = own_suffix l parts.1 named in
     let line = location_line l (dashed l) own.text own.fits in
-    let r : Reading = reading stages.Locations v e ls [] [] [] in
-    let go : ℕ × Option (List ℕ) → Result Reading ℕ = λ p. location_step r p.0 p.1 in
+    let r : AutomatonSoFar = reading stages.Locations v e ls [] [] [] in
+    let go : ℕ × Option (List ℕ) → Result AutomatonSoFar ℕ = λ p. location_step r p.0 p.1 in
     reaches_line automaton_grammar r (reading stages.Locations v e (ls ++ l ∷ []) [] [] []) (codes "loc " ++ hex8 l.at ++ suffix_of l) (clear_is (codes "loc " ++ hex8 l.at ++ suffix_of l) line.1) refl
     (ap (location_or_later_step r (codes "loc " ++ hex8 l.at ++ suffix_of l)) line.0
     ∙ ap (λ o. or_fault FIELD o go) (location_read l.at (dashed l) parts.0 own.fits)
@@ -232,9 +232,9 @@ unfolding automaton_step location_or_later_step
 as_later stages.Start v e ls es last ms line word fs on entry other parts = cc
 as_later stages.Header v e ls es last ms line word fs on entry other parts = cc
 as_later stages.Locations v e ls es last ms line word fs on entry other parts =
-    let r : Reading = reading stages.Locations v e ls es last ms in
-    let place : Result Reading ℕ = or_fault FIELD (location_fields fs) (λ l. location_step r l.0 l.1) in
-    let later : Result Reading ℕ = later_step r line (word ∷ fs) in
+    let r : AutomatonSoFar = reading stages.Locations v e ls es last ms in
+    let place : Result AutomatonSoFar ℕ = or_fault FIELD (location_fields fs) (λ l. location_step r l.0 l.1) in
+    let later : Result AutomatonSoFar ℕ = later_step r line (word ∷ fs) in
     ap (location_or_later_step r line) parts ∙ ap (λ t. if t then place else demand (is_location ls e) NO_ENTRY later) other ∙ ap (λ t. demand t NO_ENTRY later) entry
 as_later stages.Edges v e ls es last ms line word fs on entry other parts = ap (later_step (reading stages.Edges v e ls es last ms) line) parts
 as_later stages.Marks v e ls es last ms line word fs on entry other parts = ap (later_step (reading stages.Marks v e ls es last ms) line) parts
@@ -335,19 +335,19 @@ module _ (stage : Stage) (v e : ℕ) (ls : List Location) (es : List Edge) (last
       → label_step (reading stage v e ls es last ms) line from to (label_fields from label) ≡ Ok (reading stages.Edges v e ls (es ++ record { from = from; to = to; label = label } ∷ []) line ms)
   unfolding label_step import_step code_step
   label_read from to (Import name) line fits at there above =
-      let u : Reading = reading stages.Edges v e ls (es ++ record { from = from; to = to; label = Import name } ∷ []) line ms in
+      let u : AutomatonSoFar = reading stages.Edges v e ls (es ++ record { from = from; to = to; label = Import name } ∷ []) line ms in
       ap (λ o. or_fault FIELD o (λ n. import_step (reading stage v e ls es last ms) line from to n)) (import_read name fits)
       ∙ ap (λ t. demand t ORDER (demand (is_place_of ls from name && is_location ls to) CONTENT (Ok u))) above
       ∙ ap (λ t. demand t CONTENT (Ok u)) (and_from (is_place_of ls from name) (is_location ls to) at there)
   label_read from to (Code bytes) line fits at there above =
-      let u : Reading = reading stages.Edges v e ls (es ++ record { from = from; to = to; label = Code bytes } ∷ []) line ms in
-      let r : Reading = reading stage v e ls es last ms in
+      let u : AutomatonSoFar = reading stages.Edges v e ls (es ++ record { from = from; to = to; label = Code bytes } ∷ []) line ms in
+      let r : AutomatonSoFar = reading stage v e ls es last ms in
       let text : List ℕ = code_text from bytes.items in
       let f : (nat_le (length bytes.items) 15 ≡ true) × (list_all (λ b. nat_lt b (2 ^ 8)) bytes.items ≡ true) = and_parts (nat_le (length bytes.items) 15) (list_all (λ b. nat_lt b (2 ^ 8)) bytes.items) fits in
       let a : (is_location ls from ≡ true) × (is_some (spelled bytes.items) ≡ true) = and_parts (is_location ls from) (is_some (spelled bytes.items)) at in
       let ends : Bool = is_location ls from && is_location ls to in
-      let import : Result Reading ℕ = or_fault FIELD (import_fields (fields text)) (λ n. import_step r line from to n) in
-      let code : Result Reading ℕ = or_fault FIELD (code_fields (hex_text bytes.items) (fields text)) (λ c. code_step r line from to c.0 c.1) in
+      let import : Result AutomatonSoFar ℕ = or_fault FIELD (import_fields (fields text)) (λ n. import_step r line from to n) in
+      let code : Result AutomatonSoFar ℕ = or_fault FIELD (code_fields (hex_text bytes.items) (fields text)) (λ c. code_step r line from to c.0 c.1) in
       ap (λ t. if t then import else code) (not_import bytes.items)
       ∙ ap (λ o. or_fault FIELD o (λ c. code_step r line from to c.0 c.1)) (code_read bytes.items text f.1)
       ∙ ap (λ t. demand t ORDER (demand (ends && is_code from bytes.items text) CONTENT (Ok u))) above
@@ -357,9 +357,9 @@ module _ (stage : Stage) (v e : ℕ) (ls : List Location) (es : List Edge) (last
       → Reaches automaton_grammar (reading stage v e ls es last ms) (edge_line x) (reading stages.Edges v e ls (es ++ x ∷ []) (codes "edge " ++ edge_text x) ms)
   unfolding later_step edge_step
   edge_reached x on no_marks entry fits among above =
-      let r : Reading = reading stage v e ls es last ms in
+      let r : AutomatonSoFar = reading stage v e ls es last ms in
       let line : List ℕ = codes "edge " ++ edge_text x in
-      let u : Reading = reading stages.Edges v e ls (es ++ x ∷ []) line ms in
+      let u : AutomatonSoFar = reading stages.Edges v e ls (es ++ x ∷ []) line ms in
       let outer : ((is_word x.from && is_word x.to) ≡ true) × (fits_label x.label ≡ true) = and_parts (is_word x.from && is_word x.to) (fits_label x.label) fits in
       let words : (is_word x.from ≡ true) × (is_word x.to ≡ true) = and_parts (is_word x.from) (is_word x.to) outer.0 in
       let joins : (is_label_at ls x.from x.label ≡ true) × (is_location ls x.to ≡ true) = and_parts (is_label_at ls x.from x.label) (is_location ls x.to) among in
@@ -393,7 +393,7 @@ edges_reached stage v e ls done [] on no_marks entry fits among order = record {
   last = last_line (last_of done);
   on = on;
   reached =
-      let s : Reading = reading stage v e ls done (last_line (last_of done)) [] in
+      let s : AutomatonSoFar = reading stage v e ls done (last_line (last_of done)) [] in
       subst (λ (xs : List Edge). Reaches automaton_grammar s [] (reading stage v e ls xs (last_line (last_of done)) [])) (sym (append-nil done)) (reaches_none automaton_grammar s);
 }
 edges_reached stage v e ls done (x ∷ todo) on no_marks entry fits among order =
@@ -401,7 +401,7 @@ edges_reached stage v e ls done (x ∷ todo) on no_marks entry fits among order 
     let a : (is_edge_among ls x ≡ true) × (list_all (is_edge_among ls) todo ≡ true) = and_parts (is_edge_among ls x) (list_all (is_edge_among ls) todo) among in
     let first : Bool = option_map_or (λ l. is_edge_above l x) (last_of done) true in
     let o : (first ≡ true) × (goes_on is_edge_above (Some x) todo ≡ true) = and_parts first (goes_on is_edge_above (Some x) todo) order in
-    let s : Reading = reading stage v e ls done (last_line (last_of done)) [] in
+    let s : AutomatonSoFar = reading stage v e ls done (last_line (last_of done)) [] in
     let one : Reaches automaton_grammar s (edge_line x) (reading stages.Edges v e ls (done ++ x ∷ []) (codes "edge " ++ edge_text x) []) =
     edge_reached stage v e ls done (last_line (last_of done)) [] x on no_marks entry f.0 a.0 (above_line (last_of done) x o.0)
     in
@@ -454,8 +454,8 @@ mark_reached : (stage : Stage) (v e : ℕ) (ls : List Location) (es : List Edge)
 unfolding later_step mark_step
 mark_reached stage v e ls es last ms m on entry fits row above there =
     let f : (is_word m.at ≡ true) × (fits_row m.row ≡ true) = and_parts (is_word m.at) (fits_row m.row) fits in
-    let r : Reading = reading stage v e ls es last ms in
-    let u : Reading = reading stages.Marks v e ls es last (ms ++ m ∷ []) in
+    let r : AutomatonSoFar = reading stage v e ls es last ms in
+    let u : AutomatonSoFar = reading stages.Marks v e ls es last (ms ++ m ∷ []) in
     let fs : List (List ℕ) = hex8 m.at ∷ cause_text m.cause ∷ row_list m.row in
     let line : List ℕ = codes "open" ++ spaced fs in
     let own : ArePlain fs = plain.one (hex8 m.at) (cause_text m.cause ∷ row_list m.row) (plain_is (hex8 m.at) (plain_word m.at)) (plain.one (cause_text m.cause) (row_list m.row) (plain_is (cause_text m.cause) (plain_cause m.cause)) (plain_rows m.row f.1)) in
@@ -479,14 +479,14 @@ marks_reached stage v e ls es last done [] on entry fits rows order opened = rec
   later = stage;
   on = on;
   reached =
-      let s : Reading = reading stage v e ls es last done in
+      let s : AutomatonSoFar = reading stage v e ls es last done in
       subst (λ (xs : List OpenMark). Reaches automaton_grammar s [] (reading stage v e ls es last xs)) (sym (append-nil done)) (reaches_none automaton_grammar s);
 }
 marks_reached stage v e ls es last done (m ∷ todo) on entry fits rows order opened =
     let f : (fits_mark m ≡ true) × (list_all fits_mark todo ≡ true) = and_parts (fits_mark m) (list_all fits_mark todo) fits in
     let o : (is_mark_above done m ≡ true) × (goes_on is_opening_above (Some m) todo ≡ true) = and_parts (is_mark_above done m) (goes_on is_opening_above (Some m) todo) order in
     let p : (is_location ls m.at ≡ true) × (list_all (λ n. is_location ls n.at) todo ≡ true) = and_parts (is_location ls m.at) (list_all (λ (n : OpenMark). is_location ls n.at) todo) opened in
-    let s : Reading = reading stage v e ls es last done in
+    let s : AutomatonSoFar = reading stage v e ls es last done in
     let one : Reaches automaton_grammar s (open_line m) (reading stages.Marks v e ls es last (done ++ m ∷ [])) = mark_reached stage v e ls es last done m on entry f.0 (rows 0 m (omega arith)) o.0 p.0 in
     let rest : MarksRead stages.Marks v e ls es last (done ++ m ∷ []) todo =
     marks_reached stages.Marks v e ls es last (done ++ m ∷ []) todo refl entry f.1 (λ k d below. rows (suc k) d (omega arith)) (goes_behind is_opening_above done m todo o.1) p.1
@@ -501,7 +501,7 @@ marks_reached stage v e ls es last done (m ∷ todo) on entry fits rows order op
 
 -- ---- the end
 
-counts_read : (r : Reading) → length r.locations < 2 ^ 64 → length r.edges < 2 ^ 64 → length r.marks < 2 ^ 64
+counts_read : (r : AutomatonSoFar) → length r.locations < 2 ^ 64 → length r.edges < 2 ^ 64 → length r.marks < 2 ^ 64
     → count_fields r (decimal (length r.locations) ∷ decimal (length r.edges) ∷ decimal (length r.marks) ∷ []) ≡ Some true
 unfolding count_fields
 counts_read r few fewer fewest =
@@ -517,8 +517,8 @@ end_reached : (stage : Stage) (v e : ℕ) (ls : List Location) (es : List Edge) 
     → Reaches automaton_grammar (reading stage v e ls es last ms) (end_line (length ls) (length es) (length ms)) (reading stages.Ended v e ls es last ms)
 unfolding later_step end_step
 end_reached stage v e ls es last ms on entry few fewer fewest =
-    let r : Reading = reading stage v e ls es last ms in
-    let u : Reading = reading stages.Ended v e ls es last ms in
+    let r : AutomatonSoFar = reading stage v e ls es last ms in
+    let u : AutomatonSoFar = reading stages.Ended v e ls es last ms in
     let fs : List (List ℕ) = decimal (length ls) ∷ decimal (length es) ∷ decimal (length ms) ∷ [] in
     let line : List ℕ = codes "end" ++ spaced fs in
     let own : ArePlain fs = plain.one (decimal (length ls)) (decimal (length es) ∷ decimal (length ms) ∷ []) (plain_is (decimal (length ls)) (plain_decimal (length ls) few))
@@ -542,15 +542,15 @@ read_back a fits is =
     let ls = a.locations in
     let es = a.edges in
     let ms = a.marks in
-    let h : Reading = reading stages.Header v 0 [] [] [] [] in
-    let p : Reading = reading stages.Locations v e [] [] [] [] in
-    let q : Reading = reading stages.Locations v e ls [] [] [] in
+    let h : AutomatonSoFar = reading stages.Header v 0 [] [] [] [] in
+    let p : AutomatonSoFar = reading stages.Locations v e [] [] [] [] in
+    let q : AutomatonSoFar = reading stages.Locations v e ls [] [] [] in
     let places : Reaches automaton_grammar p (flat_map loc_line ls) q = places_reached v e [] ls fits.locations is.names (goes_from_none is_location_above ls is.locations) in
     let edges : EdgesRead stages.Locations v e ls [] es = edges_reached stages.Locations v e ls [] es refl refl is.entry fits.edges is.labels (goes_from_none is_edge_above es is.edges) in
-    let s : Reading = reading edges.later v e ls es edges.last [] in
+    let s : AutomatonSoFar = reading edges.later v e ls es edges.last [] in
     let marks : MarksRead edges.later v e ls es edges.last [] ms = marks_reached edges.later v e ls es edges.last [] ms edges.on is.entry fits.marks is.rows (goes_from_none is_opening_above ms is.marks) is.opened in
-    let t : Reading = reading marks.later v e ls es edges.last ms in
-    let u : Reading = reading stages.Ended v e ls es edges.last ms in
+    let t : AutomatonSoFar = reading marks.later v e ls es edges.last ms in
+    let u : AutomatonSoFar = reading stages.Ended v e ls es edges.last ms in
     let end : Reaches automaton_grammar t (end_line (length ls) (length es) (length ms)) u = end_reached marks.later v e ls es edges.last ms marks.on is.entry fits.few_locations fits.few_edges fits.few_marks in
     let one : Reaches automaton_grammar nothing (header_line v ++ entry_line e) p = reaches_both automaton_grammar nothing h p (header_line v) (entry_line e) (header_reached v is.version) (entry_reached v e fits.entry) in
     let two : Reaches automaton_grammar nothing ((header_line v ++ entry_line e) ++ flat_map loc_line ls) q = reaches_both automaton_grammar nothing p q (header_line v ++ entry_line e) (flat_map loc_line ls) one places in

@@ -27,7 +27,7 @@ use Rattle.automaton_text.specs.Text.{cause_text, code_text}
 
 -- ---- what was read so far
 
-pub record Reading : Type 0 where
+pub record AutomatonSoFar : Type 0 where
   -- which line the last one was
   pub stage : Stage
   pub version : ℕ
@@ -38,7 +38,7 @@ pub record Reading : Type 0 where
   pub last_edge : List ℕ
   pub marks : List OpenMark
 
-abbrev pub nothing : Reading
+abbrev pub nothing : AutomatonSoFar
 nothing = record { stage = stages.Start; version = 0; entry = 0; locations = []; edges = []; last_edge = []; marks = [] }
 
 -- ---- locations
@@ -75,10 +75,10 @@ abbrev pub version_of : List ℕ → Option ℕ
 version_of line =
     if bytes_eq line (codes "jakstab-automaton 1") then Some 1 else if bytes_eq line (codes "jakstab-automaton 2") then Some 2 else None
 
-abbrev pub header_step : Reading → List ℕ → Result Reading ℕ
+abbrev pub header_step : AutomatonSoFar → List ℕ → Result AutomatonSoFar ℕ
 header_step r line = or_fault HEADER (version_of line) (λ version. Ok (record r { stage = stages.Header; version = version }))
 
-abbrev pub entry_step : Reading → List (List ℕ) → Result Reading ℕ
+abbrev pub entry_step : AutomatonSoFar → List (List ℕ) → Result AutomatonSoFar ℕ
 entry_step r [] = Err WORD
 entry_step r (word ∷ fs) =
     if bytes_eq word (codes "entry") then or_fault FIELD (only_word fs) (λ entry. Ok (record r { stage = stages.Locations; entry = entry }))
@@ -105,7 +105,7 @@ has_own_suffix at suffix = if at == EXIT_PLACE then is_named (codes "-") suffix 
 abbrev pub own_name : ℕ → Option (List ℕ) → Option (List ℕ)
 own_name at suffix = if at == EXIT_PLACE then None else suffix
 
-unfoldable pub location_step : Reading → ℕ → Option (List ℕ) → Result Reading ℕ
+unfoldable pub location_step : AutomatonSoFar → ℕ → Option (List ℕ) → Result AutomatonSoFar ℕ
 location_step r at suffix =
     demand (is_above r.locations at) ORDER (demand (has_own_suffix at suffix) CONTENT
     (Ok (record r { locations = r.locations ++ record { at = at; name = own_name at suffix } ∷ [] })))
@@ -136,27 +136,27 @@ is_line_above last line = is_lt (slice_cmp nat_cmp last line)
 unfoldable pub is_code : ℕ → List ℕ → List ℕ → Bool
 is_code from bytes text = nat_le (length bytes) 15 && is_some (spelled bytes) && bytes_eq (code_text from bytes) text
 
-abbrev pub with_edge : Reading → List ℕ → Edge → Reading
+abbrev pub with_edge : AutomatonSoFar → List ℕ → Edge → AutomatonSoFar
 with_edge r line e = record r { stage = stages.Edges; edges = r.edges ++ e ∷ []; last_edge = line }
 
-unfoldable pub import_step : Reading → List ℕ → ℕ → ℕ → List ℕ → Result Reading ℕ
+unfoldable pub import_step : AutomatonSoFar → List ℕ → ℕ → ℕ → List ℕ → Result AutomatonSoFar ℕ
 import_step r line from to name =
     demand (is_line_above r.last_edge line) ORDER (demand (is_place_of r.locations from name && is_location r.locations to) CONTENT
     (Ok (with_edge r line (record { from = from; to = to; label = Import name }))))
 
-unfoldable pub code_step : Reading → List ℕ → ℕ → ℕ → List ℕ → List ℕ → Result Reading ℕ
+unfoldable pub code_step : AutomatonSoFar → List ℕ → ℕ → ℕ → List ℕ → List ℕ → Result AutomatonSoFar ℕ
 code_step r line from to bytes text =
     demand (is_line_above r.last_edge line) ORDER (demand (is_location r.locations from && is_location r.locations to && is_code from bytes text) CONTENT
     (Ok (with_edge r line (record { from = from; to = to; label = Code (record { items = bytes }) }))))
 
 -- the word `import` and a name, or bytes and their text
-unfoldable pub label_step : Reading → List ℕ → ℕ → ℕ → List (List ℕ) → Result Reading ℕ
+unfoldable pub label_step : AutomatonSoFar → List ℕ → ℕ → ℕ → List (List ℕ) → Result AutomatonSoFar ℕ
 label_step r line from to [] = Err FIELD
 label_step r line from to (field ∷ fs) =
     if bytes_eq field (codes "import") then or_fault FIELD (import_fields fs) (λ name. import_step r line from to name)
     else or_fault FIELD (code_fields field fs) (λ code. code_step r line from to code.0 code.1)
 
-unfoldable pub edge_step : Reading → List ℕ → List (List ℕ) → Result Reading ℕ
+unfoldable pub edge_step : AutomatonSoFar → List ℕ → List (List ℕ) → Result AutomatonSoFar ℕ
 edge_step r line fs = or_fault FIELD (end_fields fs) (λ ends. label_step r line ends.0 ends.1 ends.2)
 
 -- ---- `open` lines
@@ -182,7 +182,7 @@ mark_fields version fs =
 abbrev pub is_mark_above : List OpenMark → OpenMark → Bool
 is_mark_above marks m = follows_last (λ last m. is_lt (opening_cmp last m)) marks m
 
-unfoldable pub mark_step : Reading → OpenMark → Result Reading ℕ
+unfoldable pub mark_step : AutomatonSoFar → OpenMark → Result AutomatonSoFar ℕ
 mark_step r m =
     demand (is_mark_above r.marks m) ORDER (demand (is_location r.locations m.at) CONTENT
     (Ok (record r { stage = stages.Marks; marks = r.marks ++ m ∷ [] })))
@@ -190,12 +190,12 @@ mark_step r m =
 -- ---- the `end` line
 
 -- whether three numbers are those of the locations, the edges and the marks
-unfoldable pub count_fields : Reading → List (List ℕ) → Option Bool
+unfoldable pub count_fields : AutomatonSoFar → List (List ℕ) → Option Bool
 count_fields r fs =
     then_field (decimal_is (length r.locations)) fs (λ locations fs. then_field (decimal_is (length r.edges)) fs (λ edges fs.
     then_field (decimal_is (length r.marks)) fs (λ marks fs. no_more (locations && edges && marks) fs)))
 
-unfoldable pub end_step : Reading → List (List ℕ) → Result Reading ℕ
+unfoldable pub end_step : AutomatonSoFar → List (List ℕ) → Result AutomatonSoFar ℕ
 end_step r fs = or_fault FIELD (count_fields r fs) (λ hold. demand hold COUNT (Ok (record r { stage = stages.Ended })))
 
 -- ---- all lines
@@ -205,7 +205,7 @@ is_marks stages.Marks = true
 is_marks _ = false
 
 -- an edge, a mark or the end
-unfoldable pub later_step : Reading → List ℕ → List (List ℕ) → Result Reading ℕ
+unfoldable pub later_step : AutomatonSoFar → List ℕ → List (List ℕ) → Result AutomatonSoFar ℕ
 later_step r line [] = Err WORD
 later_step r line (word ∷ fs) =
     if bytes_eq word (codes "edge") then (if is_marks r.stage then Err WORD else edge_step r line fs)
@@ -214,14 +214,14 @@ later_step r line (word ∷ fs) =
     else Err WORD
 
 -- one more location, or the first line that is none
-unfoldable pub location_or_later_step : Reading → List ℕ → List (List ℕ) → Result Reading ℕ
+unfoldable pub location_or_later_step : AutomatonSoFar → List ℕ → List (List ℕ) → Result AutomatonSoFar ℕ
 location_or_later_step r line [] = Err WORD
 location_or_later_step r line (word ∷ fs) =
     if bytes_eq word (codes "loc") then or_fault FIELD (location_fields fs) (λ l. location_step r l.0 l.1)
     else demand (is_location r.locations r.entry) NO_ENTRY (later_step r line (word ∷ fs))
 
 -- the line that follows one of this kind
-abbrev pub step_after : Stage → Reading → List ℕ → Result Reading ℕ
+abbrev pub step_after : Stage → AutomatonSoFar → List ℕ → Result AutomatonSoFar ℕ
 step_after stages.Start r line = header_step r line
 step_after stages.Header r line = entry_step r (fields line)
 step_after stages.Locations r line = location_or_later_step r line (fields line)
@@ -229,14 +229,14 @@ step_after stages.Edges r line = later_step r line (fields line)
 step_after stages.Marks r line = later_step r line (fields line)
 step_after stages.Ended r line = Err END
 
-unfoldable pub automaton_step : Reading → List ℕ → Result Reading ℕ
+unfoldable pub automaton_step : AutomatonSoFar → List ℕ → Result AutomatonSoFar ℕ
 automaton_step r line = step_after r.stage r line
 
 abbrev pub is_over : Stage → Bool
 is_over stages.Ended = true
 is_over _ = false
 
-abbrev pub automaton_grammar : Grammar Reading
+abbrev pub automaton_grammar : Grammar AutomatonSoFar
 automaton_grammar = record { step = automaton_step; is_ended = λ r. is_over r.stage }
 
 -- ---- whole texts
@@ -245,7 +245,7 @@ automaton_grammar = record { step = automaton_step; is_ended = λ r. is_over r.s
 abbrev pub told_fault : LineFault → LineFault
 told_fault f = if f.kind == NO_ENTRY then record { line = 2; kind = CONTENT } else f
 
-abbrev pub told : Result Reading LineFault → Result Automaton LineFault
+abbrev pub told : Result AutomatonSoFar LineFault → Result Automaton LineFault
 told (Ok r) = Ok (record { version = r.version; entry = r.entry; locations = r.locations; edges = r.edges; marks = r.marks })
 told (Err f) = Err (told_fault f)
 

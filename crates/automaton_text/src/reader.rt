@@ -34,9 +34,9 @@ struct AutomatonReader {
 }
 
 impl Model for AutomatonReader {
-    ghost use Rattle.automaton_text.specs.Reading.{Reading};
+    ghost use Rattle.automaton_text.specs.Reading.{AutomatonSoFar};
 
-    ghost Value = { Reading };
+    ghost Value = { AutomatonSoFar };
 
     ghost view = { λ r. record {
       stage = r.stage;

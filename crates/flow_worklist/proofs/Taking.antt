@@ -18,7 +18,7 @@ use Rattle.abstract_state.specs.State.{Known}
 use Rattle.flow_worklist.specs.declared.post.Post.{Post}
 use Rattle.flow_worklist.specs.Analysis.{ImageLog, analysis_of}
 use Rattle.flow_worklist.specs.PostOf.{IsPostOf}
-use Rattle.flow_worklist.specs.Rounds.{ArePosts, joined, with_post, with_posts}
+use Rattle.flow_worklist.specs.Rounds.{ArePosts, in_order, with_post, with_posts}
 use Rattle.flow_worklist.proofs.Expanding.{expanded_is, explored_one, explored_past, explored_spent}
 
 -- two lists related place by place, and two more behind them
@@ -110,12 +110,12 @@ nothing_is_more x xs e = cc
 module _ {X E : Type 0} where
   -- what is joined so far, and the pieces to come
   abbrev pub IsJoining : List (Result (Vec X Global) E) → List X → List (Result (Vec X Global) E) → Type 0
-  IsJoining pieces xs rest = joined pieces ≡ option_map (λ (l : List X). xs ++ l) (joined rest)
+  IsJoining pieces xs rest = in_order pieces ≡ option_map (λ (l : List X). xs ++ l) (in_order rest)
 
   pub joining_starts : (pieces rest : List (Result (Vec X Global) E)) (xs : List X) → rest ≡ pieces → xs ≡ [] → IsJoining pieces xs rest
   joining_starts pieces rest xs same none =
       let P : List X → Type 0 = λ l. IsJoining pieces l rest in
-      subst P (sym none) (ap (λ (l : List (Result (Vec X Global) E)). joined l) (sym same) ∙ sym (behind_none (joined rest)))
+      subst P (sym none) (ap (λ (l : List (Result (Vec X Global) E)). in_order l) (sym same) ∙ sym (behind_none (in_order rest)))
 
   pub joining_more : (pieces left rest : List (Result (Vec X Global) E)) (piece : Result (Vec X Global) E) (part : Vec X Global) (xs both : List X)
       → left ≡ piece ∷ rest → piece ≡ Ok part → both ≡ xs ++ part.items → IsJoining pieces xs left → IsJoining pieces both rest
@@ -123,14 +123,14 @@ module _ {X E : Type 0} where
       let P : List X → Type 0 = λ l. IsJoining pieces l rest in
       subst P (sym pushed) (
       so_far
-      ∙ ap (λ (l : List (Result (Vec X Global) E)). option_map (λ (ys : List X). xs ++ ys) (joined l)) steps
-      ∙ ap (λ (p : Result (Vec X Global) E). option_map (λ (ys : List X). xs ++ ys) (joined (p ∷ rest))) ok
-      ∙ behind_both xs part.items (joined rest)
+      ∙ ap (λ (l : List (Result (Vec X Global) E)). option_map (λ (ys : List X). xs ++ ys) (in_order l)) steps
+      ∙ ap (λ (p : Result (Vec X Global) E). option_map (λ (ys : List X). xs ++ ys) (in_order (p ∷ rest))) ok
+      ∙ behind_both xs part.items (in_order rest)
       )
 
-  pub joining_ends : (pieces rest : List (Result (Vec X Global) E)) (xs : List X) → rest ≡ [] → IsJoining pieces xs rest → joined pieces ≡ Some xs
+  pub joining_ends : (pieces rest : List (Result (Vec X Global) E)) (xs : List X) → rest ≡ [] → IsJoining pieces xs rest → in_order pieces ≡ Some xs
   joining_ends pieces rest xs none so_far =
-      so_far ∙ ap (λ (l : List (Result (Vec X Global) E)). option_map (λ (ys : List X). xs ++ ys) (joined l)) none ∙ ap Some (append-nil xs)
+      so_far ∙ ap (λ (l : List (Result (Vec X Global) E)). option_map (λ (ys : List X). xs ++ ys) (in_order l)) none ∙ ap Some (append-nil xs)
 
 module _ {D : Type 0} (d : Values D) (image : Image) (stubs : StatedStubs) (k budget : ℕ) where
   abbrev went : ℕ → ℕ → ImageLog D → ImageLog D
@@ -177,7 +177,7 @@ module _ {D : Type 0} (d : Values D) (image : Image) (stubs : StatedStubs) (k bu
 
   -- the expansions of the pieces of some rows, joined
   pub posts_joined : (size : ℕ) (pieces : List (Result (Vec (Post D) Global) NoMemory)) (rows : List (Row (Known D))) (posts : List (Post D)) → length rows ≤ length pieces * size
-      → ArePieces size rows pieces → joined pieces ≡ Some posts → ArePosts d image stubs k rows posts
+      → ArePieces size rows pieces → in_order pieces ≡ Some posts → ArePosts d image stubs k rows posts
   posts_joined size [] [] [] room are is = tt
   posts_joined size [] [] (answer ∷ answers) room are is = absurd (nothing_is_more answer answers (same_Some [] (answer ∷ answers) is))
   posts_joined size [] (row ∷ rows) posts room are is = absurd (omega (arith, room, zero-mul size))
@@ -185,9 +185,9 @@ module _ {D : Type 0} (d : Values D) (image : Image) (stubs : StatedStubs) (k bu
   posts_joined size (Ok part ∷ pieces) rows posts room are is =
       let whole : length {A = Result (Vec (Post D) Global) NoMemory} (Ok part ∷ pieces) ≡ suc (length pieces) = omega arith in
       let later : length (drop size rows) ≤ length pieces * size = omega (arith, room, ap (λ n. n * size) whole, suc-mul (length pieces) size, length-drop size rows) in
-      by_rest (λ rest. posts_joined size pieces (drop size rows) rest later (later_pieces size rows (Ok part) pieces are)) (joined pieces) refl
+      by_rest (λ rest. posts_joined size pieces (drop size rows) rest later (later_pieces size rows (Ok part) pieces are)) (in_order pieces) refl
     where
-      by_rest : ((rest : List (Post D)) → joined pieces ≡ Some rest → ArePosts d image stubs k (drop size rows) rest) → (o : Option (List (Post D))) → joined pieces ≡ o → ArePosts d image stubs k rows posts
+      by_rest : ((rest : List (Post D)) → in_order pieces ≡ Some rest → ArePosts d image stubs k (drop size rows) rest) → (o : Option (List (Post D))) → in_order pieces ≡ o → ArePosts d image stubs k rows posts
       by_rest ih None at =
           absurd (none_is_some posts (sym (ap (λ (o : Option (List (Post D))). option_map (λ (l : List (Post D)). part.items ++ l) o) at) ∙ is))
       by_rest ih (Some rest) at =

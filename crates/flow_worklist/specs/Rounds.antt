@@ -12,10 +12,10 @@ use Rattle.flow_worklist.specs.Analysis.{ImageLog, edge_by, widened_by}
 use Rattle.flow_worklist.specs.PostOf.{IsPostOf}
 
 -- what several lists have, one list after another, where none is refused
-abbrev pub joined : {X E : Type 0} → List (Result (Vec X Global) E) → Option (List X)
-joined [] = Some []
-joined (Ok part ∷ parts) = option_map (λ rest. part.items ++ rest) (joined parts)
-joined (Err e ∷ parts) = None
+abbrev pub in_order : {X E : Type 0} → List (Result (Vec X Global) E) → Option (List X)
+in_order [] = Some []
+in_order (Ok part ∷ parts) = option_map (λ rest. part.items ++ rest) (in_order parts)
+in_order (Err e ∷ parts) = None
 
 module _ {D : Type 0} (d : Values D) where
   -- each row's expansion, by its own location and state alone

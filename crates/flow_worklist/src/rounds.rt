@@ -3,7 +3,7 @@ ghost use Rattle.domain_laws.specs.Made.{values_of};
 ghost use Rattle.flow_log.specs.Log.{explored};
 ghost use Rattle.flow_worklist.specs.Analysis.{analysis_of, image_log};
 ghost use Rattle.flow_worklist.specs.Exploring.{IsIndexed, log_in};
-ghost use Rattle.flow_worklist.specs.Rounds.{ArePosts, joined, with_posts};
+ghost use Rattle.flow_worklist.specs.Rounds.{ArePosts, in_order, with_posts};
 
 use crate::exploring::{Exploration, Limits};
 use crate::gate::{Gate, OpenGate};
@@ -59,11 +59,11 @@ fn piece_posts<D: Domain, G: Gate>(
 }
 
 // The expansions of pieces, one piece after another. Refuses want of memory, and where that of a piece is refused.
-fn joined<D: Domain>(
+fn in_order<D: Domain>(
     alloc: Global,
     pieces: Vec<Result<Vec<Post<D>>, NoMemory>>,
 ) -> Result<Vec<Post<D>>, NoMemory>
-    ensures { IfOk result (λ posts. joined pieces.items ≡ Some posts.items) }
+    ensures { IfOk result (λ posts. in_order pieces.items ≡ Some posts.items) }
 {
     let mut posts = Vec::new(alloc);
     for piece in pieces {
@@ -98,7 +98,7 @@ fn posts_of<R: Threads + Sync, D: Domain, G: Gate>(
         piece_posts(alloc, image, stubs, k, gate, exploration, first, chunk)
     };
     let pieces = map_chunks(rt, alloc, rows, piece, &expand)?;
-    joined(alloc, pieces)
+    in_order(alloc, pieces)
 }
 
 impl<R: Threads + Sync, G: Gate> Rounds<'_, R, G> {

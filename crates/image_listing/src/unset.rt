@@ -24,7 +24,7 @@ fn end_of(s: &Span) -> u64
 }
 
 // Two ranges that meet or touch, as one.
-fn joined(last: Span, s: &Span) -> Span
+fn as_one(last: Span, s: &Span) -> Span
     requires order { last.low ≤ s.now.low }
     requires last { IsBelow USER_END last }
     requires next { IsBelow USER_END s.now }
@@ -50,7 +50,7 @@ fn put_after(runs: &mut Vec<Span>, s: Span) -> Result<(), AllocError>
     match runs.pop() {
         Some(last) => {
             if u64::from(s.low) <= end_of(&last) {
-                runs.push(joined(last, &s))?;
+                runs.push(as_one(last, &s))?;
             } else {
                 runs.push(last)?;
                 runs.push(s)?;

@@ -12,7 +12,7 @@ use Rattle.jakstab_core.specs.declared.status.Status.{Status}
 use Rattle.jakstab_core.specs.declared.work.Work.{Work}
 use Rattle.command_words.specs.Words.{Command}
 use Rattle.std.specs.Prelude.{Ok}
-use Rattle.jakstab_core.specs.Inputs.{Reading, Origin, File, Made, Source, StubFile, IsFaulty, IsFine, IsUnread, IsRefusedAt, AreRefused, OfBytes, image_of, stubs_of, automaton_source, image_source, record_source, stub_source, stub_sources, further_sources, sources_of, limit_of}
+use Rattle.jakstab_core.specs.Inputs.{ShelfCall, Origin, File, Made, Source, StubFile, IsFaulty, IsFine, IsUnread, IsRefusedAt, AreRefused, OfBytes, image_of, stubs_of, automaton_source, image_source, record_source, stub_source, stub_sources, further_sources, sources_of, limit_of}
 use Rattle.jakstab_core.specs.Tasks.{Prepared, AreStubs, IsWork, IsOutput, IsStartRefused}
 use Rattle.jakstab_core.specs.Says.{IsCommandRefused, IsStartless, IsTextOf}
 use Rattle.jakstab_core.specs.Due.{OfImage, OrMemory}
@@ -25,12 +25,12 @@ rose_before before middle after grown (inl rose) = inl (omega arith)
 rose_before before middle after grown (inr full) = inr full
 
 -- a shelf was asked later in a call, and not again
-pub record IsLater (r later : Reading) : Type 0 where
+pub record IsLater (r later : ShelfCall) : Type 0 where
   pub held : later.held ≡ r.held
   pub before : (name : List ℕ) → r.faults_before name ≤ later.faults_before name
   pub after : later.faults_after ≡ r.faults_after
 
-module _ (r later : Reading) (is : IsLater r later) where
+module _ (r later : ShelfCall) (is : IsLater r later) where
   unread_later : (origin : Origin) → IsUnread later origin → IsUnread r origin
   unread_later (File name) rose =
       let P : (List ℕ → ℕ) → Type 0 = λ counts. Rose (r.faults_before name) (counts name) in
@@ -54,7 +54,7 @@ module _ (r later : Reading) (is : IsLater r later) where
 
 -- ---- one input after another
 
-module _ (r : Reading) where
+module _ (r : ShelfCall) where
   -- inputs are refused, whatever is to be read behind them
   refused_among : (sources others : List Source) (status : Status) → AreRefused r sources status → AreRefused r (sources ++ others) status
   refused_among [] others status why = absurd why
@@ -68,14 +68,14 @@ module _ (r : Reading) where
   refused_behind (Some origin) stubs stated others status why = inr ((stated.0, stated.1.0, (stubs, stated.1.1)), why)
 
   -- the automaton is fine, and the record is refused, of which the shelf was asked later
-  pub record_refused_later : (later : Reading) → IsLater r later → (automaton taken : List ℕ) (a : Automaton) → OfBytes r.held (limit_of inputs.First) (File automaton) (λ text. automaton_read text ≡ Ok a)
+  pub record_refused_later : (later : ShelfCall) → IsLater r later → (automaton taken : List ℕ) (a : Automaton) → OfBytes r.held (limit_of inputs.First) (File automaton) (λ text. automaton_read text ≡ Ok a)
       → (status : Status) → OrMemory (IsRefusedAt later (record_source taken)) status → OrMemory (AreRefused r (automaton_source automaton ∷ record_source taken ∷ [])) status
   record_refused_later later is automaton taken a told status (inl memory) = inl memory
   record_refused_later later is automaton taken a told status (inr why) = inr (inr ((told.0, told.1, (a, told.2)), inl (refused_later r later is (record_source taken) status why)))
 
 -- ---- a command
 
-module _ (r : Reading) (command : Command) where
+module _ (r : ShelfCall) (command : Command) where
   -- the image is refused
   pub image_refused : (status : Status) → IsRefusedAt r (image_source (image_of command)) status → IsCommandRefused r command status
   image_refused status why = inl (inl why)
@@ -86,14 +86,14 @@ module _ (r : Reading) (command : Command) where
     behind_image status why = inl (inr ((image.0, image.1, (laid_out, image.2)), why))
 
     -- the stubs are refused, of which the shelf was asked later
-    pub stubs_refused_later : (later : Reading) → IsLater r later → (status : Status) → OrMemory (AreRefused later (stub_sources (stubs_of command))) status → OrMemory (IsCommandRefused r command) status
+    pub stubs_refused_later : (later : ShelfCall) → IsLater r later → (status : Status) → OrMemory (AreRefused later (stub_sources (stubs_of command))) status → OrMemory (IsCommandRefused r command) status
     stubs_refused_later later is status (inl memory) = inl memory
     stubs_refused_later later is status (inr why) =
         inr (behind_image status (refused_among r (stub_sources (stubs_of command)) (further_sources command) status (are_refused_later r later is (stub_sources (stubs_of command)) status why)))
 
     module _ (stubs : StatedStubs) (stated : AreStubs r.held (stubs_of command) stubs) where
       -- the stubs are fine, and a further input is refused, of which the shelf was asked later
-      pub further_refused_later : (later : Reading) → IsLater r later → (status : Status) → OrMemory (AreRefused later (further_sources command)) status → OrMemory (IsCommandRefused r command) status
+      pub further_refused_later : (later : ShelfCall) → IsLater r later → (status : Status) → OrMemory (AreRefused later (further_sources command)) status → OrMemory (IsCommandRefused r command) status
       further_refused_later later is status (inl memory) = inl memory
       further_refused_later later is status (inr why) =
           inr (behind_image status (refused_behind r (stubs_of command) stubs stated (further_sources command) status (are_refused_later r later is (further_sources command) status why)))
@@ -126,6 +126,6 @@ module _ (r : Reading) (command : Command) where
         start_refused status (inr found) = inr (inr (startless status found))
 
 -- the stubs of a demo image are refused
-pub demo_stubs_refused : (r : Reading) (text : List ℕ) (status : Status) → text ≡ demo_stubs → OrMemory (IsFaulty StubFile text) status → OrMemory (AreRefused r (stub_sources (Some (Made demo_stubs)))) status
+pub demo_stubs_refused : (r : ShelfCall) (text : List ℕ) (status : Status) → text ≡ demo_stubs → OrMemory (IsFaulty StubFile text) status → OrMemory (AreRefused r (stub_sources (Some (Made demo_stubs)))) status
 demo_stubs_refused r text status is (inl memory) = inl memory
 demo_stubs_refused r text status is (inr why) = inr (inl (inr (text, is, why)))

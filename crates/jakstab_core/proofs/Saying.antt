@@ -14,7 +14,7 @@ use Rattle.jakstab_core.specs.declared.work.Work.TheVariants as works
 use Rattle.command_words.specs.Words.{Command, command_of}
 use Rattle.jakstab_core.specs.StatusLine.{status_line}
 use Rattle.jakstab_core.specs.Headline.{CoversRuns}
-use Rattle.jakstab_core.specs.Inputs.{Reading, Origin, File, Made, Kind, ImageFile, StubFile, StartText, AutomatonText, RecordText, TableText, Source, sources_of, IsFrom, IsFaulty, IsToldAt, IsUnread, IsTooLong, IsRefusedAt, AreRefused, IsHeldFrom, AreHeld, start_place, stub_number, limit_of}
+use Rattle.jakstab_core.specs.Inputs.{ShelfCall, Origin, File, Made, Kind, ImageFile, StubFile, StartText, AutomatonText, RecordText, TableText, Source, sources_of, IsFrom, IsFaulty, IsToldAt, IsUnread, IsTooLong, IsRefusedAt, AreRefused, IsHeldFrom, AreHeld, start_place, stub_number, limit_of}
 use Rattle.jakstab_core.specs.Tasks.{IsOutput, IsStartRefused, Covers}
 use Rattle.jakstab_core.specs.Says.{Call, Gain, Says, OfCommand, IsDue, IsCommandRefused, IsStartless, IsRefused, IsUsageExact, IsFaultless, IsComplete, IsNoted, Answers}
 use Rattle.jakstab_core.specs.Due.{IsDelivered, OrMemory}
@@ -62,12 +62,12 @@ faulty_status AutomatonText bytes status h = place_status status h.0 h.2
 faulty_status RecordText bytes status h = place_status status h.0 h.2
 faulty_status TableText bytes status h = absurd h
 
-refused_status : (r : Reading) (s : Source) (status : Status) → IsRefusedAt r s status → is_of_input status ≡ true
+refused_status : (r : ShelfCall) (s : Source) (status : Status) → IsRefusedAt r s status → is_of_input status ≡ true
 refused_status r s status (inl (inl h)) = ap is_of_input h.0
 refused_status r s status (inl (inr h)) = ap is_of_input h.0
 refused_status r s status (inr h) = faulty_status s.kind h.0 status h.2
 
-among_status : (r : Reading) (sources : List Source) (status : Status) → AreRefused r sources status → is_of_input status ≡ true
+among_status : (r : ShelfCall) (sources : List Source) (status : Status) → AreRefused r sources status → is_of_input status ≡ true
 among_status r [] status h = absurd h
 among_status r (s ∷ rest) status (inl h) = refused_status r s status h
 among_status r (s ∷ rest) status (inr h) = among_status r rest status h.1
@@ -86,7 +86,7 @@ start_status (works.Recover options version) image status h = absurd h
 start_status (works.Decode address count) image status h = absurd h
 start_status (works.Summarize blocks options) image status h = absurd h
 
-command_status : (r : Reading) (command : Command) (status : Status) → IsCommandRefused r command status → is_of_input status ≡ true
+command_status : (r : ShelfCall) (command : Command) (status : Status) → IsCommandRefused r command status → is_of_input status ≡ true
 command_status r command status (inl h) = among_status r (sources_of command) status h
 command_status r command status (inr h) = start_status h.prepared.work h.prepared.image status h.refused
 
@@ -150,7 +150,7 @@ not_longer (Some held) contents limit name bytes tells content short longer =
     let long : limit < length bytes = subst P there longer in
     omega arith
 
-module _ (r : Reading) where
+module _ (r : ShelfCall) where
   held_read : (limit : ℕ) (kind : Kind) (origin : Origin) → IsHeldFrom r limit kind origin → IsUnread r origin → ⊥
   held_read limit kind (File name) h unread = h.3 unread
   held_read limit kind (Made made) h unread = unread

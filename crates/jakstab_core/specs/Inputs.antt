@@ -23,7 +23,7 @@ use Rattle.jakstab_core.specs.declared.status.Status.TheVariants.{ReadFault, Too
 use Rattle.command_words.specs.Words.{Command, OnImage, Demo, Task, Recover, ListImage, Decode, Run, Replay, Tabulate, Check}
 
 -- what a shelf tells, and its counts of faults by name, before a call and after it
-pub record Reading : Type 0 where
+pub record ShelfCall : Type 0 where
   pub held : Option Contents
   pub faults_before : List ℕ → ℕ
   pub faults_after : List ℕ → ℕ
@@ -135,7 +135,7 @@ IsFine held s = OfBytes held (limit_of s.input) s.origin (IsAccepted s.kind)
 -- ---- why an input is refused
 
 -- the count of faults for a file rose
-abbrev pub IsUnread : Reading → Origin → Type 0
+abbrev pub IsUnread : ShelfCall → Origin → Type 0
 IsUnread r (File name) = Rose (r.faults_before name) (r.faults_after name)
 IsUnread r (Made made) = ⊥
 
@@ -171,15 +171,15 @@ IsFaulty RecordText bytes status = IsBadLine (record_read bytes) status
 IsFaulty TableText bytes status = ⊥
 
 -- an input is not read, or is too long, which a status tells
-abbrev pub IsUnavailable : Reading → Input → Origin → Status → Type 0
+abbrev pub IsUnavailable : ShelfCall → Input → Origin → Status → Type 0
 IsUnavailable r input origin status = ((status ≡ ReadFault input) × IsUnread r origin) ⊎ ((status ≡ TooLong input) × IsTooLong r.held (limit_of input) origin)
 
 -- an input is refused since it is unavailable or faulty
-abbrev pub IsRefusedAt : Reading → Source → Status → Type 0
+abbrev pub IsRefusedAt : ShelfCall → Source → Status → Type 0
 IsRefusedAt r s status = IsUnavailable r s.input s.origin status ⊎ OfBytes r.held (limit_of s.input) s.origin (λ bytes. IsFaulty s.kind bytes status)
 
 -- inputs are refused at one of them, before which all are fine
-abbrev pub AreRefused : Reading → List Source → Status → Type 0
+abbrev pub AreRefused : ShelfCall → List Source → Status → Type 0
 AreRefused r [] status = ⊥
 AreRefused r (s ∷ rest) status = IsRefusedAt r s status ⊎ (IsFine r.held s × AreRefused r rest status)
 
@@ -206,11 +206,11 @@ pub record IsHeld (held : Option Contents) (name bytes : List ℕ) : Type 0 wher
   pub there : contents name ≡ Some bytes
 
 -- what is held of an input is within its limit and not faulty, and no read of it failed
-abbrev pub IsHeldFrom : Reading → ℕ → Kind → Origin → Type 0
+abbrev pub IsHeldFrom : ShelfCall → ℕ → Kind → Origin → Type 0
 IsHeldFrom r limit kind (File name) =
     (bytes : List ℕ) × IsHeld r.held name bytes × (length bytes ≤ limit) × (IsUnread r (File name) → ⊥) × ((status : Status) → IsFaulty kind bytes status → ⊥)
 IsHeldFrom r limit kind (Made made) = (status : Status) → IsFaulty kind made status → ⊥
 
-abbrev pub AreHeld : Reading → List Source → Type 0
+abbrev pub AreHeld : ShelfCall → List Source → Type 0
 AreHeld r [] = ⊤
 AreHeld r (s ∷ rest) = IsHeldFrom r (limit_of s.input) s.kind s.origin × AreHeld r rest

@@ -5,13 +5,13 @@ use Rattle.jakstab_core.specs.declared.status.Status.{Status}
 use Rattle.jakstab_core.specs.declared.status.Status.TheVariants.{Done, VerdictNo, Usage, WriteFault, Memory}
 use Rattle.jakstab_core.specs.StatusLine.{status_line}
 use Rattle.command_words.specs.Words.{Command, command_of}
-use Rattle.jakstab_core.specs.Inputs.{Reading, sources_of, AreRefused, AreHeld}
+use Rattle.jakstab_core.specs.Inputs.{ShelfCall, sources_of, AreRefused, AreHeld}
 use Rattle.jakstab_core.specs.Tasks.{Prepared, IsOutput, IsStartRefused, Covers}
 
 -- what a call asks: its words, and of the shelf
 pub record Call : Type 0 where
   pub words : List (List ℕ)
-  pub shelf : Reading
+  pub shelf : ShelfCall
 
 -- what a sink tells, and its count of faults, before a call and after it
 pub record Gain : Type 0 where
@@ -65,7 +65,7 @@ pub record IsStartless (held : Option Contents) (command : Command) (status : St
   pub refused : IsStartRefused prepared.work prepared.image status
 
 -- a command is refused at one of its inputs, or since no run begins as they say
-abbrev pub IsCommandRefused : Reading → Command → Status → Type 0
+abbrev pub IsCommandRefused : ShelfCall → Command → Status → Type 0
 IsCommandRefused r command status = AreRefused r (sources_of command) status ⊎ IsStartless r.held command status
 
 -- want of memory is free

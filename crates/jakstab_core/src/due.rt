@@ -3,7 +3,7 @@ ghost use Rattle.outside_io.specs.Outside.{Contents};
 ghost use Rattle.command_words.specs.Reader.{task_of};
 ghost use Rattle.command_words.specs.Words.{Demo, on_image};
 ghost use Rattle.jakstab_core.specs.Due.{OrMemory};
-ghost use Rattle.jakstab_core.specs.Inputs.{Reading};
+ghost use Rattle.jakstab_core.specs.Inputs.{ShelfCall};
 ghost use Rattle.jakstab_core.specs.Says.{IsCommandRefused, IsDue, IsRefused, IsTextOf};
 
 use crate::Status;
@@ -58,7 +58,7 @@ fn on_demo<R: Threads + Sync, G: Gate>(
     options: Options,
     gate: &G,
 ) -> Result<Output, Status>
-    ensures { (r : Reading) → MatchResult result (λ o. IsTextOf r.held (Demo blocks options) o.text.items o.is_no) (OrMemory (IsCommandRefused r (Demo blocks options))) }
+    ensures { (r : ShelfCall) → MatchResult result (λ o. IsTextOf r.held (Demo blocks options) o.text.items o.is_no) (OrMemory (IsCommandRefused r (Demo blocks options))) }
 {
     let Ok((image, stubs)) = demo(alloc, blocks) else {
         return Err(Status::Memory);

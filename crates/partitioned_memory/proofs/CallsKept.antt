@@ -26,7 +26,7 @@ use Rattle.partitioned_memory.specs.declared.fact.Dirty.{Dirty}
 use Rattle.partitioned_memory.specs.declared.fact.Counted.{Counted}
 use Rattle.partitioned_memory.specs.Areas.{has_byte, interval_at, is_marked, same_area}
 use Rattle.partitioned_memory.specs.Lists.{Every}
-use Rattle.partitioned_memory.specs.Held.{PartsHeld, after_forgetting, counts_below, covers_count, covers_fact, covers_held, found, interval_of_dirty, interval_of_fact, is_at, is_below, is_dirty, is_stack_below, joined, known_byte, known_half, known_number, lies_in, lies_in_one, read_of, value_read}
+use Rattle.partitioned_memory.specs.Held.{PartsHeld, after_forgetting, counts_below, covers_count, covers_fact, covers_held, found, interval_of_dirty, interval_of_fact, is_at, is_below, is_dirty, is_stack_below, low_with_high, known_byte, known_half, known_number, lies_in, lies_in_one, read_of, value_read}
 use Rattle.partitioned_memory.specs.Describes.{AreBytes, IsApart, IsDescribed, IsTrueOf, IsWritten, StartsAt, counts_one, half_in, is_byte_of, number_in, stack_bytes_below}
 use Rattle.partitioned_memory.proofs.ListLaws.{Every-both, Every-weaker}
 use Rattle.partitioned_memory.proofs.Orders.{int_le-true, int_lt-false, int_lt-true, same_area-is, same_area-refl}
@@ -109,10 +109,10 @@ record IsJoined (n : ℕ) (x y : Option ℕ) (m : ℕ) : Type 0 where
   pub high_is : y ≡ Some high
   pub sum : low + n * high ≡ m
 
-joined-is : (n : ℕ) (x y : Option ℕ) (m : ℕ) → joined n x y ≡ Some m → IsJoined n x y m
-joined-is n (Some l) (Some h) m e = record { low = l; high = h; low_is = refl; high_is = refl; sum = cc }
-joined-is n (Some l) None m e = absurd (cc)
-joined-is n None y m e = absurd (cc)
+low_with_high-is : (n : ℕ) (x y : Option ℕ) (m : ℕ) → low_with_high n x y ≡ Some m → IsJoined n x y m
+low_with_high-is n (Some l) (Some h) m e = record { low = l; high = h; low_is = refl; high_is = refl; sum = cc }
+low_with_high-is n (Some l) None m e = absurd (cc)
+low_with_high-is n None y m e = absurd (cc)
 
 Tells : (ℤ → Option ℕ) → (ℕ → ℕ) → ℕ → ℤ → ℤ → Type 0
 Tells look b base low end = (o : ℤ) (m : ℕ) → low ≤ℤ o → o <ℤ end → look o ≡ Some m → b (place_at base o) ≡ m
@@ -120,7 +120,7 @@ Tells look b base low end = (o : ℤ) (m : ℕ) → low ≤ℤ o → o <ℤ end 
 half-known : (look : ℤ → Option ℕ) (b : ℕ → ℕ) (base : ℕ) (low end o : ℤ) (n : ℕ) → Tells look b base low end → low ≤ℤ o → (o +ℤ pos 1) <ℤ end → known_half look o ≡ Some n → half_in b base o ≡ n
 unfolding Tells
 half-known look b base low end o n tells above below e =
-    let j = joined-is 256 (look o) (look (o +ℤ pos 1)) n e in
+    let j = low_with_high-is 256 (look o) (look (o +ℤ pos 1)) n e in
     let first = tells o j.low above (omega (arith, ints)) j.low_is in
     let second = tells (o +ℤ pos 1) j.high (omega (arith, ints)) below j.high_is in
     ap (λ k. k + 256 * b (place_at base (o +ℤ pos 1))) first ∙ ap (λ k. j.low + 256 * k) second ∙ j.sum
@@ -130,7 +130,7 @@ unfolding Tells
 number-known look b base low B8 n tells e = tells low n (omega (arith, ints)) (omega (arith, ints)) e
 number-known look b base low B16 n tells e = half-known look b base low (low +ℤ pos 2) low n tells (omega (arith, ints)) (omega (arith, ints)) e
 number-known look b base low B32 n tells e =
-    let j = joined-is 65536 (known_half look low) (known_half look (low +ℤ pos 2)) n e in
+    let j = low_with_high-is 65536 (known_half look low) (known_half look (low +ℤ pos 2)) n e in
     let first = half-known look b base low (low +ℤ pos 4) low j.low tells (omega (arith, ints)) (omega (arith, ints)) j.low_is in
     let second = half-known look b base low (low +ℤ pos 4) (low +ℤ pos 2) j.high tells (omega (arith, ints)) (omega (arith, ints)) j.high_is in
     ap (λ k. k + 65536 * half_in b base (low +ℤ pos 2)) first ∙ ap (λ k. j.low + 65536 * k) second ∙ j.sum

@@ -8,7 +8,7 @@ use Rattle.std.proofs.lemmas.Bool.{false≢true, and_right}
 use Rattle.std.proofs.lemmas.List.{append-nil, drop-drop, drop-take, drop_more, length-take-le, map-append, nil_from_length, take-append-drop, take_rest}
 use Rattle.std.proofs.lemmas.List.Elements.{filter-append, filter_agree}
 use Rattle.partitioned_memory.specs.Lists.{Every, Ascends, Falls, around, placed}
-use Rattle.partitioned_memory.specs.Leaves.{IsLeaf, joined, last_passes, unless}
+use Rattle.partitioned_memory.specs.Leaves.{IsLeaf, flattened, last_passes, unless}
 use Rattle.partitioned_memory.proofs.ListLaws.{Every-map, Every-weaker}
 
 -- ---- what holds of each element of two lists as one
@@ -146,25 +146,25 @@ last-all t (x ∷ y ∷ ys) l h = last-all t (y ∷ ys) (omega arith) h.1
 
 -- ---- leaves
 
-joined-append : {X : Type 0} (xss yss : List (List X)) → joined (xss ++ yss) ≡ joined xss ++ joined yss
-joined-append [] yss = refl
-joined-append (xs ∷ xss) yss = ap (λ zs. xs ++ zs) (joined-append xss yss) ∙ sym (append_assoc xs (joined xss) (joined yss))
+flattened-append : {X : Type 0} (xss yss : List (List X)) → flattened (xss ++ yss) ≡ flattened xss ++ flattened yss
+flattened-append [] yss = refl
+flattened-append (xs ∷ xss) yss = ap (λ zs. xs ++ zs) (flattened-append xss yss) ∙ sym (append_assoc xs (flattened xss) (flattened yss))
 
-none-of-leaves : {X : Type 0} (t : X → Bool) (xss : List (List X)) → Every (λ x. t x ≡ false) (joined xss) → Every (λ xs. last_passes t xs ≡ false) xss
+none-of-leaves : {X : Type 0} (t : X → Bool) (xss : List (List X)) → Every (λ x. t x ≡ false) (flattened xss) → Every (λ xs. last_passes t xs ≡ false) xss
 none-of-leaves t [] h = tt
 none-of-leaves t (xs ∷ xss) h =
-    (last-none t xs (Every-front (λ x. t x ≡ false) xs (joined xss) h), none-of-leaves t xss (Every-back (λ x. t x ≡ false) xs (joined xss) h))
+    (last-none t xs (Every-front (λ x. t x ≡ false) xs (flattened xss) h), none-of-leaves t xss (Every-back (λ x. t x ≡ false) xs (flattened xss) h))
 
 -- a test that falls along the pairs falls along the leaves, at the last pair of each
-pub Falls-leaves : {X : Type 0} (t : X → Bool) (xss : List (List X)) → Falls t (joined xss) → Every IsLeaf xss → Falls (last_passes t) xss
+pub Falls-leaves : {X : Type 0} (t : X → Bool) (xss : List (List X)) → Falls t (flattened xss) → Every IsLeaf xss → Falls (last_passes t) xss
 Falls-leaves t [] f h = tt
 Falls-leaves t (xs ∷ xss) f h =
-    (λ e. none-of-leaves t xss (last-false t xs (joined xss) f h.0.filled e), Falls-leaves t xss (Falls-back t xs (joined xss) f) h.1)
+    (λ e. none-of-leaves t xss (last-false t xs (flattened xss) f h.0.filled e), Falls-leaves t xss (Falls-back t xs (flattened xss) f) h.1)
 
-all-in-leaves : {X : Type 0} (t : X → Bool) (xss : List (List X)) → Falls t (joined xss) → Every (λ xs. last_passes t xs ≡ true) xss → Every (λ x. t x ≡ true) (joined xss)
+all-in-leaves : {X : Type 0} (t : X → Bool) (xss : List (List X)) → Falls t (flattened xss) → Every (λ xs. last_passes t xs ≡ true) xss → Every (λ x. t x ≡ true) (flattened xss)
 all-in-leaves t [] f h = tt
 all-in-leaves t (xs ∷ xss) f h =
-    Every-append (λ x. t x ≡ true) xs (joined xss) (last-true t xs (Falls-front t xs (joined xss) f) h.0) (all-in-leaves t xss (Falls-back t xs (joined xss) f) h.1)
+    Every-append (λ x. t x ≡ true) xs (flattened xss) (last-true t xs (Falls-front t xs (flattened xss) f) h.0) (all-in-leaves t xss (Falls-back t xs (flattened xss) f) h.1)
 
 -- where a list of leaves is cut: before the first leaf whose last pair fails, or before the last leaf
 pub Falls-take : {X : Type 0} (t : X → Bool) (n : ℕ) (xs : List X) → Falls t xs → Falls t (take n xs)
@@ -190,51 +190,51 @@ split-there (a ∷ ls) x (suc at) l is = ap (λ ys. a ∷ ys) (split-there ls x 
 
 -- a list of leaves is cut within a leaf, where a test begins to fail
 pub record IsCut {X : Type 0} (t : X → Bool) (all before : List (List X)) (left right : List X) (after : List (List X)) : Type 0 where
-  pub front : joined before ++ left ≡ filter t (joined all)
-  pub back : right ++ joined after ≡ filter (λ x. not (t x)) (joined all)
-  pub next : right ≡ [] → joined after ≡ []
+  pub front : flattened before ++ left ≡ filter t (flattened all)
+  pub back : right ++ flattened after ≡ filter (λ x. not (t x)) (flattened all)
+  pub next : right ≡ [] → flattened after ≡ []
   pub leaves_before : Every IsLeaf before
   pub leaves_after : Every IsLeaf after
 
-rest-fails : {X : Type 0} (t : X → Bool) (ys : List X) (after : List (List X)) → Falls t (ys ++ joined after) → 0 < length ys → ((after ≡ [] → ⊥) → last_passes t ys ≡ false) → Every (λ x. t x ≡ false) (joined after)
+rest-fails : {X : Type 0} (t : X → Bool) (ys : List X) (after : List (List X)) → Falls t (ys ++ flattened after) → 0 < length ys → ((after ≡ [] → ⊥) → last_passes t ys ≡ false) → Every (λ x. t x ≡ false) (flattened after)
 rest-fails t ys [] f l h = tt
-rest-fails t ys (z ∷ zs) f l h = last-false t ys (joined (z ∷ zs)) f l (h (λ e. cc))
+rest-fails t ys (z ∷ zs) f l h = last-false t ys (flattened (z ∷ zs)) f l (h (λ e. cc))
 
-none-left : {X : Type 0} (t : X → Bool) (ys left right : List X) (after : List (List X)) → ys ≡ left ++ right → 0 < length ys → Every (λ x. t x ≡ true) left → ((after ≡ [] → ⊥) → last_passes t ys ≡ false) → right ≡ [] → joined after ≡ []
+none-left : {X : Type 0} (t : X → Bool) (ys left right : List X) (after : List (List X)) → ys ≡ left ++ right → 0 < length ys → Every (λ x. t x ≡ true) left → ((after ≡ [] → ⊥) → last_passes t ys ≡ false) → right ≡ [] → flattened after ≡ []
 none-left t ys left right [] s l h k e = refl
 none-left t ys left right (z ∷ zs) s l h k e =
     let same : ys ≡ left = s ∙ ap (λ r. left ++ r) e ∙ append-nil left in
     absurd (false≢true (sym (k (λ q. cc)) ∙ last-all t ys l (subst (Every (λ x. t x ≡ true)) (sym same) h)))
 
-pub cut-there : {X : Type 0} (t : X → Bool) (before : List (List X)) (ys left right : List X) (after : List (List X)) → ys ≡ left ++ right → Falls t (joined (before ++ ys ∷ after)) → Every IsLeaf (before ++ ys ∷ after) → Every (λ xs. last_passes t xs ≡ true) before → ((after ≡ [] → ⊥) → last_passes t ys ≡ false) → Every (λ x. t x ≡ true) left → Every (λ x. t x ≡ false) right → IsCut t (before ++ ys ∷ after) before left right after
+pub cut-there : {X : Type 0} (t : X → Bool) (before : List (List X)) (ys left right : List X) (after : List (List X)) → ys ≡ left ++ right → Falls t (flattened (before ++ ys ∷ after)) → Every IsLeaf (before ++ ys ∷ after) → Every (λ xs. last_passes t xs ≡ true) before → ((after ≡ [] → ⊥) → last_passes t ys ≡ false) → Every (λ x. t x ≡ true) left → Every (λ x. t x ≡ false) right → IsCut t (before ++ ys ∷ after) before left right after
 cut-there t before ys left right after s f leaves h k p q =
-    let whole : joined (before ++ ys ∷ after) ≡ joined before ++ (ys ++ joined after) = joined-append before (ys ∷ after) in
-    let parted : joined (before ++ ys ∷ after) ≡ (joined before ++ left) ++ (right ++ joined after) =
+    let whole : flattened (before ++ ys ∷ after) ≡ flattened before ++ (ys ++ flattened after) = flattened-append before (ys ∷ after) in
+    let parted : flattened (before ++ ys ∷ after) ≡ (flattened before ++ left) ++ (right ++ flattened after) =
     whole
-    ∙ ap (λ zs. joined before ++ (zs ++ joined after)) s
-    ∙ ap (λ zs. joined before ++ zs) (append_assoc left right (joined after))
-    ∙ sym (append_assoc (joined before) left (right ++ joined after)) in
-    let falls : Falls t (joined before ++ (ys ++ joined after)) = subst (Falls t) whole f in
+    ∙ ap (λ zs. flattened before ++ (zs ++ flattened after)) s
+    ∙ ap (λ zs. flattened before ++ zs) (append_assoc left right (flattened after))
+    ∙ sym (append_assoc (flattened before) left (right ++ flattened after)) in
+    let falls : Falls t (flattened before ++ (ys ++ flattened after)) = subst (Falls t) whole f in
     let own = Every-back IsLeaf before (ys ∷ after) leaves in
-    let first : Every (λ x. t x ≡ true) (joined before ++ left) = Every-append (λ x. t x ≡ true) (joined before) left (all-in-leaves t before (Falls-front t (joined before) (ys ++ joined after) falls) h) p in
-    let rest : Every (λ x. t x ≡ false) (right ++ joined after) = Every-append (λ x. t x ≡ false) right (joined after) q (rest-fails t ys after (Falls-back t (joined before) (ys ++ joined after) falls) own.0.filled k) in
+    let first : Every (λ x. t x ≡ true) (flattened before ++ left) = Every-append (λ x. t x ≡ true) (flattened before) left (all-in-leaves t before (Falls-front t (flattened before) (ys ++ flattened after) falls) h) p in
+    let rest : Every (λ x. t x ≡ false) (right ++ flattened after) = Every-append (λ x. t x ≡ false) right (flattened after) q (rest-fails t ys after (Falls-back t (flattened before) (ys ++ flattened after) falls) own.0.filled k) in
     record {
-      front = sym (ap (filter t) parted ∙ cut-front t (joined before ++ left) (right ++ joined after) first rest);
-      back = sym (ap (filter (λ x. not (t x))) parted ∙ cut-back t (joined before ++ left) (right ++ joined after) first rest);
+      front = sym (ap (filter t) parted ∙ cut-front t (flattened before ++ left) (right ++ flattened after) first rest);
+      back = sym (ap (filter (λ x. not (t x))) parted ∙ cut-back t (flattened before ++ left) (right ++ flattened after) first rest);
       next = none-left t ys left right after s own.0.filled p k;
       leaves_before = Every-front IsLeaf before (ys ∷ after) leaves;
       leaves_after = own.1;
     }
 
 -- the same for shared leaves
-pub cut-leaves : {A X : Type 0} (f : A → List X) (t : X → Bool) (ls : List A) (x : A) (n at here : ℕ) (after : List A) → suc n ≡ length ls → at ≤ n → x ≡ get_or ls at x → after ≡ drop (suc at) ls → Falls t (joined (map f ls)) → Every IsLeaf (map f ls) → Every (λ a. last_passes t (f a) ≡ true) (take at (take n ls)) → Every (λ a. last_passes t (f a) ≡ false) (drop at (take n ls)) → Every (λ y. t y ≡ true) (take here (f x)) → Every (λ y. t y ≡ false) (drop here (f x)) → IsCut t (map f ls) (map f (take at ls)) (take here (f x)) (drop here (f x)) (map f after)
+pub cut-leaves : {A X : Type 0} (f : A → List X) (t : X → Bool) (ls : List A) (x : A) (n at here : ℕ) (after : List A) → suc n ≡ length ls → at ≤ n → x ≡ get_or ls at x → after ≡ drop (suc at) ls → Falls t (flattened (map f ls)) → Every IsLeaf (map f ls) → Every (λ a. last_passes t (f a) ≡ true) (take at (take n ls)) → Every (λ a. last_passes t (f a) ≡ false) (drop at (take n ls)) → Every (λ y. t y ≡ true) (take here (f x)) → Every (λ y. t y ≡ false) (drop here (f x)) → IsCut t (map f ls) (map f (take at ls)) (take here (f x)) (drop here (f x)) (map f after)
 cut-leaves {A} {X} f t ls x n at here after e l is is_after falls leaves h k p q =
     let there = place-of-leaf (λ a. last_passes t (f a)) ls x n at e l is h k in
     let split : ls ≡ take at ls ++ (x ∷ drop (suc at) ls) = split-there ls x at (omega (arith, e, l)) is in
     let same : map f ls ≡ map f (take at ls) ++ (f x ∷ map f (drop (suc at) ls)) = ap (map f) split ∙ map-append f (take at ls) (x ∷ drop (suc at) ls) in
     let made : IsCut t (map f (take at ls) ++ (f x ∷ map f (drop (suc at) ls))) (map f (take at ls)) (take here (f x)) (drop here (f x)) (map f (drop (suc at) ls)) =
     cut-there t (map f (take at ls)) (f x) (take here (f x)) (drop here (f x)) (map f (drop (suc at) ls)) (sym (take-append-drop here (f x)))
-    (subst (λ xss. Falls t (joined xss)) same falls) (subst (Every IsLeaf) same leaves)
+    (subst (λ xss. Falls t (flattened xss)) same falls) (subst (Every IsLeaf) same leaves)
     (Every-map (λ a. last_passes t (f a) ≡ true) (λ xs. last_passes t xs ≡ true) f (take at ls) (λ a b. b) there.0)
     (λ more. there.1 (λ none. more (ap (map f) none))) p q in
     subst (λ (zs : List A). IsCut t (map f ls) (map f (take at ls)) (take here (f x)) (drop here (f x)) (map f zs)) (sym is_after)
@@ -242,13 +242,13 @@ cut-leaves {A} {X} f t ls x n at here after e l is is_after falls leaves h k p q
 
 -- ---- leaves that are appended
 
-pub leaf-pushed : {X : Type 0} (ps qs : List (List X)) (first others rest all : List X) → qs ≡ ps ++ first ∷ [] → rest ≡ first ++ others → joined ps ++ rest ≡ all → joined qs ++ others ≡ all
+pub leaf-pushed : {X : Type 0} (ps qs : List (List X)) (first others rest all : List X) → qs ≡ ps ++ first ∷ [] → rest ≡ first ++ others → flattened ps ++ rest ≡ all → flattened qs ++ others ≡ all
 leaf-pushed ps qs first others rest all e s h =
-    ap (λ zs. joined zs ++ others) e
-    ∙ ap (λ zs. zs ++ others) (joined-append ps (first ∷ []))
-    ∙ append_assoc (joined ps) (first ++ []) others
-    ∙ ap (λ zs. joined ps ++ (zs ++ others)) (append-nil first)
-    ∙ ap (λ zs. joined ps ++ zs) (sym s)
+    ap (λ zs. flattened zs ++ others) e
+    ∙ ap (λ zs. zs ++ others) (flattened-append ps (first ∷ []))
+    ∙ append_assoc (flattened ps) (first ++ []) others
+    ∙ ap (λ zs. flattened ps ++ (zs ++ others)) (append-nil first)
+    ∙ ap (λ zs. flattened ps ++ zs) (sym s)
     ∙ h
 
 pub leaves-pushed : {X : Type 0} (ps qs : List (List X)) (first : List X) → qs ≡ ps ++ first ∷ [] → 0 < length first → length first ≤ 64 → Every IsLeaf ps → Every IsLeaf qs
@@ -259,7 +259,7 @@ nonzero zero b e h = absurd (false≢true (sym h ∙ e))
 nonzero (suc n) b e h = omega arith
 
 -- the same, by what the calls tell
-pub cut-found : {A X : Type 0} (f : A → List X) (t : X → Bool) (ls others after : List A) (x : A) (at here : ℕ) (ys left right : List X) (empty : Bool) → empty ≡ (length ls == 0) → empty ≡ false → others ≡ take (length ls - 1) ls → at ≤ length others → x ≡ get_or ls at x → after ≡ take (length ls - (at + 1)) (drop (at + 1) ls) → ys ≡ f x → left ≡ take here ys → right ≡ drop here ys → Falls t (joined (map f ls)) → Every IsLeaf (map f ls) → Every (λ a. last_passes t (f a) ≡ true) (take at others) → Every (λ a. last_passes t (f a) ≡ false) (drop at others) → Every (λ y. t y ≡ true) (take here ys) → Every (λ y. t y ≡ false) (drop here ys) → IsCut t (map f ls) (map f (take at ls)) left right (map f after)
+pub cut-found : {A X : Type 0} (f : A → List X) (t : X → Bool) (ls others after : List A) (x : A) (at here : ℕ) (ys left right : List X) (empty : Bool) → empty ≡ (length ls == 0) → empty ≡ false → others ≡ take (length ls - 1) ls → at ≤ length others → x ≡ get_or ls at x → after ≡ take (length ls - (at + 1)) (drop (at + 1) ls) → ys ≡ f x → left ≡ take here ys → right ≡ drop here ys → Falls t (flattened (map f ls)) → Every IsLeaf (map f ls) → Every (λ a. last_passes t (f a) ≡ true) (take at others) → Every (λ a. last_passes t (f a) ≡ false) (drop at others) → Every (λ y. t y ≡ true) (take here ys) → Every (λ y. t y ≡ false) (drop here ys) → IsCut t (map f ls) (map f (take at ls)) left right (map f after)
 cut-found {A} {X} f t ls others after x at here ys left right empty is_empty filled is_others within is is_after is_ys is_left is_right falls leaves h k p q =
     let some : 0 < length ls = nonzero (length ls) empty is_empty filled in
     let short : length (take (length ls - 1) ls) ≡ length ls - 1 = length-take-le (length ls - 1) ls (omega arith) in
@@ -274,13 +274,13 @@ cut-found {A} {X} f t ls others after x at here ys left right empty is_empty fil
     subst (λ (zs : List X). IsCut t (map f ls) (map f (take at ls)) zs right (map f after)) (sym (is_left ∙ ap (take here) is_ys))
     (subst (λ (zs : List X). IsCut t (map f ls) (map f (take at ls)) (take here (f x)) zs (map f after)) (sym (is_right ∙ ap (drop here) is_ys)) made)
 
-falls-there : {A X : Type 0} (f : A → List X) (t : X → Bool) (ls : List A) (x : A) (at : ℕ) → at < length ls → x ≡ get_or ls at x → Falls t (joined (map f ls)) → Falls t (f x)
+falls-there : {A X : Type 0} (f : A → List X) (t : X → Bool) (ls : List A) (x : A) (at : ℕ) → at < length ls → x ≡ get_or ls at x → Falls t (flattened (map f ls)) → Falls t (f x)
 falls-there f t [] x at l is h = absurd (omega (arith, l))
-falls-there f t (a ∷ ls) x zero l is h = subst (λ z. Falls t (f z)) (sym is) (Falls-front t (f a) (joined (map f ls)) h)
-falls-there f t (a ∷ ls) x (suc at) l is h = falls-there f t ls x at (omega (arith, l)) is (Falls-back t (f a) (joined (map f ls)) h)
+falls-there f t (a ∷ ls) x zero l is h = subst (λ z. Falls t (f z)) (sym is) (Falls-front t (f a) (flattened (map f ls)) h)
+falls-there f t (a ∷ ls) x (suc at) l is h = falls-there f t ls x at (omega (arith, l)) is (Falls-back t (f a) (flattened (map f ls)) h)
 
 -- a test that falls along all pairs falls along those of a leaf
-pub falls-found : {A X : Type 0} (f : A → List X) (t : X → Bool) (ls others : List A) (x : A) (at : ℕ) (ys : List X) (empty : Bool) → empty ≡ (length ls == 0) → empty ≡ false → others ≡ take (length ls - 1) ls → at ≤ length others → x ≡ get_or ls at x → ys ≡ f x → Falls t (joined (map f ls)) → Falls t ys
+pub falls-found : {A X : Type 0} (f : A → List X) (t : X → Bool) (ls others : List A) (x : A) (at : ℕ) (ys : List X) (empty : Bool) → empty ≡ (length ls == 0) → empty ≡ false → others ≡ take (length ls - 1) ls → at ≤ length others → x ≡ get_or ls at x → ys ≡ f x → Falls t (flattened (map f ls)) → Falls t ys
 falls-found {A} f t ls others x at ys empty is_empty filled is_others within is is_ys h =
     let some : 0 < length ls = nonzero (length ls) empty is_empty filled in
     let short : length (take (length ls - 1) ls) ≡ length ls - 1 = length-take-le (length ls - 1) ls (omega arith) in
@@ -319,15 +319,15 @@ twice-not true = refl
 twice-not false = refl
 
 -- the pairs of leaves, with others appended
-pub around-joined : {X : Type 0} (b a : X → Bool) (new : Option X) (all : List X) (none one two three before after : List (List X)) (left right pairs : List X) → none ≡ [] → one ≡ none ++ before → joined two ≡ joined one ++ pairs → three ≡ two ++ after → pairs ≡ left ++ (option_to_list new ++ right) → joined before ++ left ≡ filter b all → right ++ joined after ≡ filter (λ x. not (not (a x))) all → joined three ≡ around b new a all
-around-joined b a new all none one two three before after left right pairs e f g h s p q =
-    ap joined h
-    ∙ joined-append two after
-    ∙ ap (λ zs. zs ++ joined after) (g ∙ ap (λ zs. joined zs ++ pairs) (f ∙ ap (λ zs. zs ++ before) e) ∙ ap (λ zs. joined before ++ zs) s)
-    ∙ ap (λ zs. zs ++ joined after) (sym (append_assoc (joined before) left (option_to_list new ++ right)))
-    ∙ append_assoc (joined before ++ left) (option_to_list new ++ right) (joined after)
-    ∙ ap (λ zs. (joined before ++ left) ++ zs) (append_assoc (option_to_list new) right (joined after))
-    ∙ ap (λ zs. zs ++ (option_to_list new ++ (right ++ joined after))) p
+pub around-flattened : {X : Type 0} (b a : X → Bool) (new : Option X) (all : List X) (none one two three before after : List (List X)) (left right pairs : List X) → none ≡ [] → one ≡ none ++ before → flattened two ≡ flattened one ++ pairs → three ≡ two ++ after → pairs ≡ left ++ (option_to_list new ++ right) → flattened before ++ left ≡ filter b all → right ++ flattened after ≡ filter (λ x. not (not (a x))) all → flattened three ≡ around b new a all
+around-flattened b a new all none one two three before after left right pairs e f g h s p q =
+    ap flattened h
+    ∙ flattened-append two after
+    ∙ ap (λ zs. zs ++ flattened after) (g ∙ ap (λ zs. flattened zs ++ pairs) (f ∙ ap (λ zs. zs ++ before) e) ∙ ap (λ zs. flattened before ++ zs) s)
+    ∙ ap (λ zs. zs ++ flattened after) (sym (append_assoc (flattened before) left (option_to_list new ++ right)))
+    ∙ append_assoc (flattened before ++ left) (option_to_list new ++ right) (flattened after)
+    ∙ ap (λ zs. (flattened before ++ left) ++ zs) (append_assoc (option_to_list new) right (flattened after))
+    ∙ ap (λ zs. zs ++ (option_to_list new ++ (right ++ flattened after))) p
     ∙ ap (λ zs. filter b all ++ (option_to_list new ++ zs)) (q ∙ filter_agree (λ x. not (not (a x))) a (λ x. twice-not (a x)) all)
 
 -- ---- the first element in a stretch
@@ -414,26 +414,26 @@ all-map : {X Y : Type 0} (f : X → Y) (t : Y → Bool) (xs : List X) → list_a
 all-map f t [] = refl
 all-map f t (x ∷ xs) = ap (λ b. t (f x) && b) (all-map f t xs)
 
-any-joined : {A X Y : Type 0} (g : A → List X) (f : X → Y) (t : Y → Bool) (ls : List A) → list_any (λ a. list_any (λ x. t (f x)) (g a)) ls ≡ list_any t (map f (joined (map g ls)))
-any-joined g f t [] = refl
-any-joined g f t (a ∷ ls) =
+any-flattened : {A X Y : Type 0} (g : A → List X) (f : X → Y) (t : Y → Bool) (ls : List A) → list_any (λ a. list_any (λ x. t (f x)) (g a)) ls ≡ list_any t (map f (flattened (map g ls)))
+any-flattened g f t [] = refl
+any-flattened g f t (a ∷ ls) =
     ap (λ b. b || list_any (λ l. list_any (λ x. t (f x)) (g l)) ls) (sym (any-map f t (g a)))
-    ∙ ap (λ b. list_any t (map f (g a)) || b) (any-joined g f t ls)
-    ∙ sym (ap (list_any t) (map-append f (g a) (joined (map g ls))) ∙ list_any-append t (map f (g a)) (map f (joined (map g ls))))
+    ∙ ap (λ b. list_any t (map f (g a)) || b) (any-flattened g f t ls)
+    ∙ sym (ap (list_any t) (map-append f (g a) (flattened (map g ls))) ∙ list_any-append t (map f (g a)) (map f (flattened (map g ls))))
 
-all-joined : {A X Y : Type 0} (g : A → List X) (f : X → Y) (t : Y → Bool) (ls : List A) → list_all (λ a. list_all (λ x. t (f x)) (g a)) ls ≡ list_all t (map f (joined (map g ls)))
-all-joined g f t [] = refl
-all-joined g f t (a ∷ ls) =
+all-flattened : {A X Y : Type 0} (g : A → List X) (f : X → Y) (t : Y → Bool) (ls : List A) → list_all (λ a. list_all (λ x. t (f x)) (g a)) ls ≡ list_all t (map f (flattened (map g ls)))
+all-flattened g f t [] = refl
+all-flattened g f t (a ∷ ls) =
     ap (λ b. b && list_all (λ l. list_all (λ x. t (f x)) (g l)) ls) (sym (all-map f t (g a)))
-    ∙ ap (λ b. list_all t (map f (g a)) && b) (all-joined g f t ls)
-    ∙ sym (ap (list_all t) (map-append f (g a) (joined (map g ls))) ∙ list_all-append t (map f (g a)) (map f (joined (map g ls))))
+    ∙ ap (λ b. list_all t (map f (g a)) && b) (all-flattened g f t ls)
+    ∙ sym (ap (list_all t) (map-append f (g a) (flattened (map g ls))) ∙ list_all-append t (map f (g a)) (map f (flattened (map g ls))))
 
 -- what a walk over the leaves tells of all pairs
-pub any-of-leaves : {A X Y : Type 0} (g : A → List X) (f : X → Y) (t : Y → Bool) (ls : List A) (xs : List X) (r : Bool) → r ≡ list_any (λ a. list_any (λ x. t (f x)) (g a)) ls → joined (map g ls) ≡ xs → r ≡ list_any t (map f xs)
-any-of-leaves g f t ls xs r e s = e ∙ any-joined g f t ls ∙ ap (λ ys. list_any t (map f ys)) s
+pub any-of-leaves : {A X Y : Type 0} (g : A → List X) (f : X → Y) (t : Y → Bool) (ls : List A) (xs : List X) (r : Bool) → r ≡ list_any (λ a. list_any (λ x. t (f x)) (g a)) ls → flattened (map g ls) ≡ xs → r ≡ list_any t (map f xs)
+any-of-leaves g f t ls xs r e s = e ∙ any-flattened g f t ls ∙ ap (λ ys. list_any t (map f ys)) s
 
-pub all-of-leaves : {A X Y : Type 0} (g : A → List X) (f : X → Y) (t : Y → Bool) (ls : List A) (xs : List X) (r : Bool) → r ≡ list_all (λ a. list_all (λ x. t (f x)) (g a)) ls → joined (map g ls) ≡ xs → r ≡ list_all t (map f xs)
-all-of-leaves g f t ls xs r e s = e ∙ all-joined g f t ls ∙ ap (λ ys. list_all t (map f ys)) s
+pub all-of-leaves : {A X Y : Type 0} (g : A → List X) (f : X → Y) (t : Y → Bool) (ls : List A) (xs : List X) (r : Bool) → r ≡ list_all (λ a. list_all (λ x. t (f x)) (g a)) ls → flattened (map g ls) ≡ xs → r ≡ list_all t (map f xs)
+all-of-leaves g f t ls xs r e s = e ∙ all-flattened g f t ls ∙ ap (λ ys. list_all t (map f ys)) s
 
 -- ---- elements by their places
 
@@ -454,33 +454,33 @@ get-map f (x ∷ xs) (suc i) = get-map f xs i
 
 -- ---- a walk over leaves
 
-pub leaf-next : {A X : Type 0} (g : A → List X) (ls : List A) (i : ℕ) (a : A) → i < length ls → a ≡ get_or ls i a → joined (map g (drop i ls)) ≡ g a ++ joined (map g (drop (i + 1) ls))
-leaf-next g ls i a l e = ap (λ zs. joined (map g zs)) (drop_more ls i a l) ∙ ap (λ z. g z ++ joined (map g (drop (i + 1) ls))) (sym e)
+pub leaf-next : {A X : Type 0} (g : A → List X) (ls : List A) (i : ℕ) (a : A) → i < length ls → a ≡ get_or ls i a → flattened (map g (drop i ls)) ≡ g a ++ flattened (map g (drop (i + 1) ls))
+leaf-next g ls i a l e = ap (λ zs. flattened (map g zs)) (drop_more ls i a l) ∙ ap (λ z. g z ++ flattened (map g (drop (i + 1) ls))) (sym e)
 
 -- what is in the stretch, one leaf more
-pub within-more : {A X : Type 0} (g : A → List X) (t : X → Bool) (ls : List A) (i : ℕ) (a : A) (out new : List X) (pairs all : List X) → i < length ls → a ≡ get_or ls i a → pairs ≡ g a → new ≡ out ++ filter t pairs → out ++ filter t (joined (map g (drop i ls))) ≡ all → new ++ filter t (joined (map g (drop (i + 1) ls))) ≡ all
+pub within-more : {A X : Type 0} (g : A → List X) (t : X → Bool) (ls : List A) (i : ℕ) (a : A) (out new : List X) (pairs all : List X) → i < length ls → a ≡ get_or ls i a → pairs ≡ g a → new ≡ out ++ filter t pairs → out ++ filter t (flattened (map g (drop i ls))) ≡ all → new ++ filter t (flattened (map g (drop (i + 1) ls))) ≡ all
 within-more g t ls i a out new pairs all l e s n h =
-    ap (λ zs. zs ++ filter t (joined (map g (drop (i + 1) ls)))) (n ∙ ap (λ zs. out ++ filter t zs) s)
-    ∙ append_assoc out (filter t (g a)) (filter t (joined (map g (drop (i + 1) ls))))
-    ∙ ap (λ zs. out ++ zs) (sym (filter-append t (g a) (joined (map g (drop (i + 1) ls)))))
+    ap (λ zs. zs ++ filter t (flattened (map g (drop (i + 1) ls)))) (n ∙ ap (λ zs. out ++ filter t zs) s)
+    ∙ append_assoc out (filter t (g a)) (filter t (flattened (map g (drop (i + 1) ls))))
+    ∙ ap (λ zs. out ++ zs) (sym (filter-append t (g a) (flattened (map g (drop (i + 1) ls)))))
     ∙ ap (λ zs. out ++ filter t zs) (sym (leaf-next g ls i a l e))
     ∙ h
 
-pub falls-first : {A X : Type 0} (g : A → List X) (t : X → Bool) (ls : List A) (i : ℕ) (a : A) (pairs : List X) → i < length ls → a ≡ get_or ls i a → pairs ≡ g a → Falls t (joined (map g (drop i ls))) → Falls t pairs
+pub falls-first : {A X : Type 0} (g : A → List X) (t : X → Bool) (ls : List A) (i : ℕ) (a : A) (pairs : List X) → i < length ls → a ≡ get_or ls i a → pairs ≡ g a → Falls t (flattened (map g (drop i ls))) → Falls t pairs
 falls-first g t ls i a pairs l e s h =
-    subst (Falls t) (sym s) (Falls-front t (g a) (joined (map g (drop (i + 1) ls))) (subst (Falls t) (leaf-next g ls i a l e) h))
+    subst (Falls t) (sym s) (Falls-front t (g a) (flattened (map g (drop (i + 1) ls))) (subst (Falls t) (leaf-next g ls i a l e) h))
 
-pub falls-rest : {A X : Type 0} (g : A → List X) (t : X → Bool) (ls : List A) (i : ℕ) (a : A) → i < length ls → a ≡ get_or ls i a → Falls t (joined (map g (drop i ls))) → Falls t (joined (map g (drop (i + 1) ls)))
-falls-rest g t ls i a l e h = Falls-back t (g a) (joined (map g (drop (i + 1) ls))) (subst (Falls t) (leaf-next g ls i a l e) h)
+pub falls-rest : {A X : Type 0} (g : A → List X) (t : X → Bool) (ls : List A) (i : ℕ) (a : A) → i < length ls → a ≡ get_or ls i a → Falls t (flattened (map g (drop i ls))) → Falls t (flattened (map g (drop (i + 1) ls)))
+falls-rest g t ls i a l e h = Falls-back t (g a) (flattened (map g (drop (i + 1) ls))) (subst (Falls t) (leaf-next g ls i a l e) h)
 
 -- the i-th pair, when those of a leaf are passed over, and in a leaf
-pub nth-more : {A X : Type 0} (g : A → List X) (ls : List A) (i left rest : ℕ) (a : A) (pairs : List X) (o : Option X) → i < length ls → a ≡ get_or ls i a → pairs ≡ g a → rest + length pairs ≡ left → slice_get (joined (map g (drop i ls))) left ≡ o → slice_get (joined (map g (drop (i + 1) ls))) rest ≡ o
+pub nth-more : {A X : Type 0} (g : A → List X) (ls : List A) (i left rest : ℕ) (a : A) (pairs : List X) (o : Option X) → i < length ls → a ≡ get_or ls i a → pairs ≡ g a → rest + length pairs ≡ left → slice_get (flattened (map g (drop i ls))) left ≡ o → slice_get (flattened (map g (drop (i + 1) ls))) rest ≡ o
 nth-more g ls i left rest a pairs o l e s k h =
-    sym (get-right (g a) (joined (map g (drop (i + 1) ls))) left rest (ap (λ zs. rest + length zs) (sym s) ∙ k)) ∙ ap (λ zs. slice_get zs left) (sym (leaf-next g ls i a l e)) ∙ h
+    sym (get-right (g a) (flattened (map g (drop (i + 1) ls))) left rest (ap (λ zs. rest + length zs) (sym s) ∙ k)) ∙ ap (λ zs. slice_get zs left) (sym (leaf-next g ls i a l e)) ∙ h
 
-pub nth-there : {A X : Type 0} (g : A → List X) (ls : List A) (i left : ℕ) (a : A) (pairs : List X) (o : Option X) → i < length ls → a ≡ get_or ls i a → pairs ≡ g a → left < length pairs → slice_get (joined (map g (drop i ls))) left ≡ o → slice_get pairs left ≡ o
+pub nth-there : {A X : Type 0} (g : A → List X) (ls : List A) (i left : ℕ) (a : A) (pairs : List X) (o : Option X) → i < length ls → a ≡ get_or ls i a → pairs ≡ g a → left < length pairs → slice_get (flattened (map g (drop i ls))) left ≡ o → slice_get pairs left ≡ o
 nth-there g ls i left a pairs o l e s k h =
     ap (λ zs. slice_get zs left) s
-    ∙ sym (get-left (g a) (joined (map g (drop (i + 1) ls))) left (subst (λ zs. left < length zs) s k))
+    ∙ sym (get-left (g a) (flattened (map g (drop (i + 1) ls))) left (subst (λ zs. left < length zs) s k))
     ∙ ap (λ zs. slice_get zs left) (sym (leaf-next g ls i a l e))
     ∙ h

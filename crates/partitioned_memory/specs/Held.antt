@@ -180,20 +180,20 @@ abbrev pub known_byte : List Range → List Span → List Dirty → Area → ℤ
 known_byte ranges unset dirty a o = if is_dirty a o dirty then None else first_byte ranges unset a o
 
 -- two known numbers as one, the low one counted in units and the high one in units of n
-abbrev pub joined : ℕ → Option ℕ → Option ℕ → Option ℕ
-joined n (Some low) (Some high) = Some (low + n * high)
-joined n (Some low) None = None
-joined n None high = None
+abbrev pub low_with_high : ℕ → Option ℕ → Option ℕ → Option ℕ
+low_with_high n (Some low) (Some high) = Some (low + n * high)
+low_with_high n (Some low) None = None
+low_with_high n None high = None
 
 -- a known number of two bytes, the lowest first
 abbrev pub known_half : (ℤ → Option ℕ) → ℤ → Option ℕ
-known_half look o = joined 256 (look o) (look (o +ℤ pos 1))
+known_half look o = low_with_high 256 (look o) (look (o +ℤ pos 1))
 
 -- a known number of a width
 abbrev pub known_number : (ℤ → Option ℕ) → ℤ → Width → Option ℕ
 known_number look o B8 = look o
 known_number look o B16 = known_half look o
-known_number look o B32 = joined 65536 (known_half look o) (known_half look (o +ℤ pos 2))
+known_number look o B32 = low_with_high 65536 (known_half look o) (known_half look (o +ℤ pos 2))
 
 -- ---- the calls
 

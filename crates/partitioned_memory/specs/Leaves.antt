@@ -19,8 +19,8 @@ abbrev pub pieces : {V Z : Type 0} → List (Arc (Leaf V) Z) → List (List (Spo
 pieces leaves = map pairs_in leaves
 
 -- lists as one
-abbrev pub joined : {X : Type 0} → List (List X) → List X
-joined xss = flat_map (λ xs. xs) xss
+abbrev pub flattened : {X : Type 0} → List (List X) → List X
+flattened xss = flat_map (λ xs. xs) xss
 
 -- a leaf has 1 to 64 pairs
 pub record IsLeaf {X : Type 0} (xs : List X) : Type 0 where
@@ -29,7 +29,7 @@ pub record IsLeaf {X : Type 0} (xs : List X) : Type 0 where
 
 -- the pairs ascend by spot through all leaves
 pub record AreLeaves {V : Type 0} (leaves : List (List (Spot × V))) : Type 0 where
-  pub ascend : Ascends pair_before (joined leaves)
+  pub ascend : Ascends pair_before (flattened leaves)
   pub each : Every IsLeaf leaves
 
 -- the last element passes a test

@@ -13,7 +13,7 @@ use memory_map::{Ranges, Segments};
 
 /// What is known of an area's bytes without a fact.
 #[derive(Clone, Copy)]
-pub(crate) struct Known<'a> {
+pub(crate) struct AreaBytes<'a> {
     pub(crate) segments: &'a Segments,
     pub(crate) unset: &'a Ranges,
     pub(crate) dirty: &'a Spots<i64>,
@@ -44,7 +44,7 @@ fn first_byte(segments: &Segments, unset: &Ranges, area: Area, o: i64) -> Option
     }
 }
 
-impl Known<'_> {
+impl AreaBytes<'_> {
     pub(crate) fn byte(&self, o: i64) -> Option<u8>
         requires { IsOffset self.now.area o }
         ensures { result ≡ known_byte (map range_of self.now.segments.now) self.now.unset.now (map dirty_at self.now.dirty.now) self.now.area o }

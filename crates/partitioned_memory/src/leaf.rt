@@ -1,6 +1,6 @@
 ghost use Rattle.std.specs.Prelude.{◌≡◌, ◌≤◌, ◌&&◌, true, false, ◌∷◌, [], ◌++◌, IfOk, IfNone, IfSome, drop, filter, length, not, slice_get, take};
 ghost use Rattle.partitioned_memory.specs.Lists.{Every, Falls};
-ghost use Rattle.partitioned_memory.specs.Leaves.{IsLeaf, before_edge, joined, last_passes, pairs_in, pieces};
+ghost use Rattle.partitioned_memory.specs.Leaves.{IsLeaf, before_edge, flattened, last_passes, pairs_in, pieces};
 ghost use Rattle.partitioned_memory.specs.Pairs.{IsParted};
 
 use crate::fact::Spot;
@@ -99,12 +99,12 @@ pub(crate) fn cut_at<'a, V: Copy, S: Stretch<V>>(
     stretch: &S,
     edge: Edge,
 ) -> Option<Cut<'a, V>>
-    requires parted { Falls (before_edge edge (S.before stretch.now) (S.after stretch.now)) (joined (pieces leaves.now)) }
+    requires parted { Falls (before_edge edge (S.before stretch.now) (S.after stretch.now)) (flattened (pieces leaves.now)) }
     requires leaves { Every IsLeaf (pieces leaves.now) }
     ensures none { IfNone result (leaves.now ≡ []) }
-    ensures front { IfSome result (λ c. joined (pieces c.before.now) ++ c.left.now ≡ filter (before_edge edge (S.before stretch.now) (S.after stretch.now)) (joined (pieces leaves.now))) }
-    ensures back { IfSome result (λ c. c.right.now ++ joined (pieces c.after.now) ≡ filter (λ p. not (before_edge edge (S.before stretch.now) (S.after stretch.now) p)) (joined (pieces leaves.now))) }
-    ensures next { IfSome result (λ c. c.right.now ≡ [] → joined (pieces c.after.now) ≡ []) }
+    ensures front { IfSome result (λ c. flattened (pieces c.before.now) ++ c.left.now ≡ filter (before_edge edge (S.before stretch.now) (S.after stretch.now)) (flattened (pieces leaves.now))) }
+    ensures back { IfSome result (λ c. c.right.now ++ flattened (pieces c.after.now) ≡ filter (λ p. not (before_edge edge (S.before stretch.now) (S.after stretch.now) p)) (flattened (pieces leaves.now))) }
+    ensures next { IfSome result (λ c. c.right.now ≡ [] → flattened (pieces c.after.now) ≡ []) }
     ensures leaves_before { IfSome result (λ c. Every IsLeaf (pieces c.before.now)) }
     ensures leaves_after { IfSome result (λ c. Every IsLeaf (pieces c.after.now)) }
 {
@@ -166,7 +166,7 @@ pub(crate) fn push_pairs<V: Copy>(
     pairs: &[(Spot, V)],
 ) -> Result<(), NoMemory>
     requires { Every IsLeaf (pieces out.old.items) }
-    ensures pairs { IfOk result (λ _. joined (pieces out.new.items) ≡ joined (pieces out.old.items) ++ pairs.now) }
+    ensures pairs { IfOk result (λ _. flattened (pieces out.new.items) ≡ flattened (pieces out.old.items) ++ pairs.now) }
     ensures leaves { IfOk result (λ _. Every IsLeaf (pieces out.new.items)) }
 {
     let mut rest = pairs;

@@ -18,7 +18,7 @@ use crate::fact_list::{
     found,
 };
 use crate::held_byte::byte_held;
-use crate::known::Known;
+use crate::known::AreaBytes;
 use crate::spots::Spots;
 use address_regions::Region;
 use bit_words::{NoMemory, Width};
@@ -90,7 +90,7 @@ impl<D: Domain> Parts<D> {
         ensures value { result ≡ read_of (values_of D.Domain.own D.eq) (map range_of segments.now) unset.now area low w self.now }
         ensures holds { MayHold (values_of D.Domain.own D.eq) self.now.blocks w result }
     {
-        let known = Known {
+        let known = AreaBytes {
             segments,
             unset,
             dirty: &self.dirty,
@@ -113,7 +113,7 @@ impl<D: Domain> Parts<D> {
         if segments.byte_at(a).is_none() {
             return None;
         }
-        let known = Known {
+        let known = AreaBytes {
             segments,
             unset,
             dirty: &self.dirty,

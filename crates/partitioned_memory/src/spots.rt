@@ -1,6 +1,6 @@
 ghost use Rattle.std.specs.Prelude.{◌≡◌, [], ◌++◌, ◌&&◌, IfOk, filter, not, option_to_list, slice_get};
 ghost use Rattle.partitioned_memory.specs.Lists.{Ascends, Every, Falls, around};
-ghost use Rattle.partitioned_memory.specs.Leaves.{IsLeaf, joined, pieces, unless};
+ghost use Rattle.partitioned_memory.specs.Leaves.{IsLeaf, flattened, pieces, unless};
 ghost use Rattle.partitioned_memory.specs.Pairs.{IsParted, first_in, pair_before, pairs_with, pairs_without, value_at};
 
 use crate::fact::Spot;
@@ -22,11 +22,11 @@ pub struct Spots<V> {
 impl<V> Model for Spots<V> {
     ghost use Rattle.std.specs.Prelude.{List};
     ghost use Rattle.partitioned_memory.specs.declared.fact.Spot.{Spot};
-    ghost use Rattle.partitioned_memory.specs.Leaves.{AreLeaves, joined, pieces};
+    ghost use Rattle.partitioned_memory.specs.Leaves.{AreLeaves, flattened, pieces};
 
     ghost Value = { List (Spot × V) };
 
-    ghost view = { λ s. joined (pieces s.leaves.items) };
+    ghost view = { λ s. flattened (pieces s.leaves.items) };
 
     ghost invariant = { λ s. AreLeaves (pieces s.leaves.items) };
 }
@@ -89,7 +89,7 @@ impl<V: Copy> Spots<V> {
 
     /// The leaves in which the pairs lie.
     pub(crate) fn leaves(&self) -> &[Arc<Leaf<V>>]
-        ensures { joined (pieces result.now) ≡ self.now }
+        ensures { flattened (pieces result.now) ≡ self.now }
     {
         &self.leaves
     }
@@ -127,9 +127,9 @@ impl<V: Copy> Spots<V> {
 
 // The first pair that is not before a stretch.
 fn next_pair<V: Copy, S: Stretch<V>>(leaves: &[Arc<Leaf<V>>], stretch: &S) -> Option<(Spot, V)>
-    requires parted { Falls (S.before stretch.now) (joined (pieces leaves.now)) }
+    requires parted { Falls (S.before stretch.now) (flattened (pieces leaves.now)) }
     requires leaves { Every IsLeaf (pieces leaves.now) }
-    ensures { result ≡ slice_get (filter (λ p. not (S.before stretch.now p)) (joined (pieces leaves.now))) 0 }
+    ensures { result ≡ slice_get (filter (λ p. not (S.before stretch.now p)) (flattened (pieces leaves.now))) 0 }
 {
     cut_at(leaves, stretch, Edge::Start)?.right.first().copied()
 }
@@ -140,8 +140,8 @@ fn pairs_within<V: Copy, S: Stretch<V>>(
     leaves: &[Arc<Leaf<V>>],
     stretch: &S,
 ) -> Result<Vec<(Spot, V)>, NoMemory>
-    requires { IsParted (S.before stretch.now) (S.after stretch.now) (joined (pieces leaves.now)) }
-    ensures { IfOk result (λ all. all.items ≡ filter (λ p. not (S.before stretch.now p) && not (S.after stretch.now p)) (joined (pieces leaves.now))) }
+    requires { IsParted (S.before stretch.now) (S.after stretch.now) (flattened (pieces leaves.now)) }
+    ensures { IfOk result (λ all. all.items ≡ filter (λ p. not (S.before stretch.now p) && not (S.after stretch.now p)) (flattened (pieces leaves.now))) }
 {
     let mut all = Vec::new(alloc);
     for leaf in leaves {
@@ -152,7 +152,7 @@ fn pairs_within<V: Copy, S: Stretch<V>>(
 
 // The i-th pair, counted from 0.
 fn nth_pair<V: Copy>(leaves: &[Arc<Leaf<V>>], i: usize) -> Option<(Spot, V)>
-    ensures { result ≡ slice_get (joined (pieces leaves.now)) i }
+    ensures { result ≡ slice_get (flattened (pieces leaves.now)) i }
 {
     let mut left = i;
     for leaf in leaves {
@@ -197,7 +197,7 @@ fn pairs_around<V: Copy>(
 
 // The leaves of one pair, or of none.
 fn leaves_of<V: Copy>(alloc: Global, new: Option<(Spot, V)>) -> Result<Vec<Arc<Leaf<V>>>, NoMemory>
-    ensures pairs { IfOk result (λ all. joined (pieces all.items) ≡ option_to_list new) }
+    ensures pairs { IfOk result (λ all. flattened (pieces all.items) ≡ option_to_list new) }
     ensures leaves { IfOk result (λ all. Every IsLeaf (pieces all.items)) }
 {
     let mut pairs = Vec::new(alloc);
@@ -216,9 +216,9 @@ fn leaves_around<V: Copy, S: Stretch<V>>(
     stretch: &S,
     new: Option<(Spot, V)>,
 ) -> Result<Vec<Arc<Leaf<V>>>, NoMemory>
-    requires parted { IsParted (S.before stretch.now) (S.after stretch.now) (joined (pieces leaves.now)) }
+    requires parted { IsParted (S.before stretch.now) (S.after stretch.now) (flattened (pieces leaves.now)) }
     requires leaves { Every IsLeaf (pieces leaves.now) }
-    ensures pairs { IfOk result (λ all. joined (pieces all.items) ≡ around (S.before stretch.now) new (S.after stretch.now) (joined (pieces leaves.now))) }
+    ensures pairs { IfOk result (λ all. flattened (pieces all.items) ≡ around (S.before stretch.now) new (S.after stretch.now) (flattened (pieces leaves.now))) }
     ensures leaves { IfOk result (λ all. Every IsLeaf (pieces all.items)) }
 {
     let Some(front) = cut_at(leaves, stretch, Edge::Start) else {

@@ -38,7 +38,7 @@ use Rattle.abstract_state.proofs.Building.{plain-built}
 use Rattle.table_check.specs.declared.stage.Stage.{Stage}
 use Rattle.table_check.specs.declared.stage.Stage.TheVariants as stages
 use Rattle.table_check.specs.Fields.{dirty_fields, fact_fields, regs_fields}
-use Rattle.table_check.specs.Reading.{Reading, after_state, block_step, closed, closed_by, count_fields, dirty_step, end_step, fact_step, flags_step, is_dirty_above, is_fact_above, is_over, k_step, mark_or_next_step, mark_step, next_step, no_state, note_step, nothing, part_of, regs_step, row_step, state_step, table_grammar, table_read, table_step, told}
+use Rattle.table_check.specs.Reading.{TableSoFar, after_state, block_step, closed, closed_by, count_fields, dirty_step, end_step, fact_step, flags_step, is_dirty_above, is_fact_above, is_over, k_step, mark_or_next_step, mark_step, next_step, no_state, note_step, nothing, part_of, regs_step, row_step, state_step, table_grammar, table_read, table_step, told}
 use Rattle.table_check.specs.Text.{area_text, block_line, count_text, dirty_line, end_line, fact_line, flags_line, header_text, k_line, note_line, offset_text, open_line, region_text, regs_line, row_line, row_text, state_text, table_text, truth_code, value_text}
 use Rattle.table_check.specs.TextLaws.{FitsRow, FitsState, IsStateOf, TablesAreReadBack, fits_count, fits_dirty, fits_fact, fits_note, is_above, is_made, is_word}
 use Rattle.table_check.proofs.FieldsTold.{block_list, dirty_list, fact_list, note_list}
@@ -176,13 +176,13 @@ parted : (word : List ℕ) (fs : List (List ℕ)) → is_plain word ≡ true →
 parted word fs own others = fields_spaced word fs (plain_is word own) (are_plain fs others)
 
 -- a line of a word and fields leads to what the line makes
-taken_line : (r t : Reading) (word : List ℕ) (fs : List (List ℕ)) (text : List ℕ) → (word ++ spaced fs) ++ newline ≡ text → is_plain word ≡ true → list_all is_plain fs ≡ true → is_over r.stage ≡ false
+taken_line : (r t : TableSoFar) (word : List ℕ) (fs : List (List ℕ)) (text : List ℕ) → (word ++ spaced fs) ++ newline ≡ text → is_plain word ≡ true → list_all is_plain fs ≡ true → is_over r.stage ≡ false
     → table_step r (word ++ spaced fs) ≡ Ok t → Reaches table_grammar r text t
 taken_line r t word fs text same own others on taken =
     let clear : All (λ b. (b == 10) ≡ false) (word ++ spaced fs) = All-append (λ b. (b == 10) ≡ false) word (spaced fs) (plain_line word (plain_is word own)) (spaced_line fs (are_plain fs others)) in
     subst (λ l. Reaches table_grammar r l t) same (reaches_line table_grammar r t (word ++ spaced fs) clear on taken)
 
-abbrev reading : Image → Stage → ℕ → List ℕ → List (ℕ × Known Bounded) → ℕ → StateData Bounded → Reading
+abbrev reading : Image → Stage → ℕ → List ℕ → List (ℕ × Known Bounded) → ℕ → StateData Bounded → TableSoFar
 reading image stage k marked rows at state = record { image = image; stage = stage; k = k; marked = marked; rows = rows; at = at; state = state }
 
 -- ---- before the rows
@@ -194,7 +194,7 @@ header_reached image = taken_line (nothing image) (reading image stages.Header 0
 k_reached : (image : Image) (k : ℕ) → 1 ≤ k → k ≤ 1024 → Reaches table_grammar (reading image stages.Header 0 [] [] 0 no_state) (k_line k) (reading image stages.Marks k [] [] 0 no_state)
 unfolding table_step
 k_reached image k least greatest =
-    let r : Reading = reading image stages.Header 0 [] [] 0 no_state in
+    let r : TableSoFar = reading image stages.Header 0 [] [] 0 no_state in
     let fs : List (List ℕ) = decimal k ∷ [] in
     let own : is_plain (decimal k) ≡ true = plain_decimal k (omega arith) in
     let others : list_all is_plain fs ≡ true = and_from (is_plain (decimal k)) true own refl in
@@ -209,8 +209,8 @@ mark_reached : (image : Image) (k : ℕ) (marked : List ℕ) (at : ℕ) → is_w
     → Reaches table_grammar (reading image stages.Marks k marked [] 0 no_state) (open_line at) (reading image stages.Marks k (marked ++ at ∷ []) [] 0 no_state)
 unfolding table_step mark_or_next_step mark_step
 mark_reached image k marked at small above =
-    let r : Reading = reading image stages.Marks k marked [] 0 no_state in
-    let u : Reading = reading image stages.Marks k (marked ++ at ∷ []) [] 0 no_state in
+    let r : TableSoFar = reading image stages.Marks k marked [] 0 no_state in
+    let u : TableSoFar = reading image stages.Marks k (marked ++ at ∷ []) [] 0 no_state in
     let fs : List (List ℕ) = hex8 at ∷ [] in
     let others : list_all is_plain fs ≡ true = one_plain (hex8 at) (plain_word at) in
     taken_line r u (codes "open") fs (open_line at) (open_text at) refl others refl
@@ -256,7 +256,7 @@ third_of : (n : ℕ) → nat_le n 2 ≡ true → nat_le n 3 ≡ true
 third_of n e = grind (arith, nat_tests)
 
 module _ (image : Image) (k : ℕ) (marked : List ℕ) (rows : List (ℕ × Known Bounded)) (at : ℕ) where
-  abbrev part : Stage → StateData Bounded → Reading
+  abbrev part : Stage → StateData Bounded → TableSoFar
   part stage s = reading image stage k marked rows at s
 
   as_state : (stage : Stage) (s : StateData Bounded) (line : List ℕ) (fs : List (List ℕ)) → is_part stage ≡ true → fields line ≡ fs → table_step (part stage s) line ≡ state_step (part stage s) fs
@@ -280,7 +280,7 @@ module _ (image : Image) (k : ℕ) (marked : List ℕ) (rows : List (ℕ × Know
   regs_reached : (vs : List Bounded) → regs_fields (map value_text vs) ≡ Some vs → Reaches table_grammar (part stages.Row no_state) (regs_line vs) (part stages.Regs (record no_state { regs = vs }))
   unfolding table_step
   regs_reached vs back =
-      let r : Reading = part stages.Row no_state in
+      let r : TableSoFar = part stages.Row no_state in
       let fs : List (List ℕ) = map value_text vs in
       taken_line r (part stages.Regs (record no_state { regs = vs })) (codes "regs") fs (regs_line vs) (regs_text vs) refl (plain_values vs) refl
       (ap (regs_step r) (parted (codes "regs") fs refl (plain_values vs))
@@ -290,7 +290,7 @@ module _ (image : Image) (k : ℕ) (marked : List ℕ) (rows : List (ℕ × Know
       → Reaches table_grammar (part stages.Regs (record no_state { regs = vs })) (flags_line ts) (part stages.Flags (record no_state { regs = vs; flags = ts }))
   unfolding table_step
   flags_reached vs ts seven =
-      let r : Reading = part stages.Regs (record no_state { regs = vs }) in
+      let r : TableSoFar = part stages.Regs (record no_state { regs = vs }) in
       let fs : List (List ℕ) = map truth_code ts ∷ [] in
       let others : list_all is_plain fs ≡ true = one_plain (map truth_code ts) (plain_truths ts) in
       taken_line r (part stages.Flags (record no_state { regs = vs; flags = ts })) (codes "flags") fs (flags_line ts) (flags_text ts) refl others refl
@@ -298,7 +298,7 @@ module _ (image : Image) (k : ℕ) (marked : List ℕ) (rows : List (ℕ × Know
       ∙ ap (λ o. or_fault FIELD o (λ us. Ok (part stages.Flags (record no_state { regs = vs; flags = us })))) (flags_back ts seven))
 
   -- what was read up to a stage of a state's lines
-  record ReadTo (s : Reading) (text : List ℕ) (part_to : ℕ) (p : StateData Bounded) : Type 0 where
+  record ReadTo (s : TableSoFar) (text : List ℕ) (part_to : ℕ) (p : StateData Bounded) : Type 0 where
     later : Stage
     on : is_part later ≡ true
     early : nat_le (part_of later) part_to ≡ true
@@ -315,12 +315,12 @@ module _ (image : Image) (k : ℕ) (marked : List ℕ) (rows : List (ℕ × Know
       → ReadTo (part stages.Flags (record no_state { regs = vs; flags = ts })) (note_line note) 2 (record no_state { regs = vs; flags = ts; note = note })
   unfolding state_step note_step
   note_reached vs ts None fits well =
-      let r : Reading = part stages.Flags (record no_state { regs = vs; flags = ts }) in
+      let r : TableSoFar = part stages.Flags (record no_state { regs = vs; flags = ts }) in
       record { later = stages.Flags; on = refl; early = refl; reached = subst (λ l. Reaches table_grammar r l r) (sym note_line-none) (reaches_none table_grammar r) }
   note_reached vs ts (Some n) fits well =
       let s : StateData Bounded = record no_state { regs = vs; flags = ts } in
-      let r : Reading = part stages.Flags s in
-      let u : Reading = part stages.Note (record s { note = Some n }) in
+      let r : TableSoFar = part stages.Flags s in
+      let u : TableSoFar = part stages.Note (record s { note = Some n }) in
       let fs : List (List ℕ) = note_list n in
       let others : list_all is_plain fs ≡ true = plain_note n well in
       record {
@@ -344,11 +344,11 @@ module _ (image : Image) (k : ℕ) (marked : List ℕ) (rows : List (ℕ × Know
       → Reaches table_grammar (part stage s) (fact_line f) (part stages.Facts (record s { facts = s.facts ++ f ∷ [] }))
   unfolding state_step fact_step
   fact_reached stage s f on early fits made above sound bytes clear =
-      let r : Reading = part stage s in
-      let u : Reading = part stages.Facts (record s { facts = s.facts ++ f ∷ [] }) in
+      let r : TableSoFar = part stage s in
+      let u : TableSoFar = part stages.Facts (record s { facts = s.facts ++ f ∷ [] }) in
       let fs : List (List ℕ) = fact_list f in
       let others : list_all is_plain fs ≡ true = plain_fact f in
-      let go : Result Reading ℕ = or_fault FIELD (fact_fields fs) (fact_step r) in
+      let go : Result TableSoFar ℕ = or_fault FIELD (fact_fields fs) (fact_step r) in
       let content : Bool = is_sound_fact bounded f && (is_fact_of image f && follows_last fact_before s.facts f) in
       let holds : content ≡ true = and_from (is_sound_fact bounded f) (is_fact_of image f && follows_last fact_before s.facts f) sound (and_from (is_fact_of image f) (follows_last fact_before s.facts f) bytes clear) in
       taken_line r u (codes "fact") fs (fact_line f) (fact_text f) refl others (not_over stage on)
@@ -397,11 +397,11 @@ module _ (image : Image) (k : ℕ) (marked : List ℕ) (rows : List (ℕ × Know
       → Reaches table_grammar (part stage s) (dirty_line d) (part stages.Dirty (record s { dirty = s.dirty ++ d ∷ [] }))
   unfolding state_step dirty_step
   dirty_reached stage s d loaded on early fits above sound bytes clear =
-      let r : Reading = part stage s in
-      let u : Reading = part stages.Dirty (record s { dirty = s.dirty ++ d ∷ [] }) in
+      let r : TableSoFar = part stage s in
+      let u : TableSoFar = part stages.Dirty (record s { dirty = s.dirty ++ d ∷ [] }) in
       let fs : List (List ℕ) = dirty_list d in
       let others : list_all is_plain fs ≡ true = plain_dirty d in
-      let go : Result Reading ℕ = or_fault FIELD (dirty_fields fs) (dirty_step r) in
+      let go : Result TableSoFar ℕ = or_fault FIELD (dirty_fields fs) (dirty_step r) in
       let content : Bool = is_sound_dirty d && (is_dirty_of image d && follows_last dirty_before s.dirty d) in
       let holds : content ≡ true = and_from (is_sound_dirty d) (is_dirty_of image d && follows_last dirty_before s.dirty d) sound (and_from (is_dirty_of image d) (follows_last dirty_before s.dirty d) bytes clear) in
       taken_line r u (codes "dirty") fs (dirty_line d) (dirty_text d) refl others (not_over stage on)
@@ -447,8 +447,8 @@ module _ (image : Image) (k : ℕ) (marked : List ℕ) (rows : List (ℕ × Know
       → Reaches table_grammar (part stage s) (block_line c) (part stages.Blocks (record s { blocks = s.blocks ++ c ∷ [] }))
   unfolding state_step block_step
   block_reached stage s c on fits above is =
-      let r : Reading = part stage s in
-      let u : Reading = part stages.Blocks (record s { blocks = s.blocks ++ c ∷ [] }) in
+      let r : TableSoFar = part stage s in
+      let u : TableSoFar = part stages.Blocks (record s { blocks = s.blocks ++ c ∷ [] }) in
       let fs : List (List ℕ) = block_list c in
       let others : list_all is_plain fs ≡ true = plain_block c in
       taken_line r u (codes "block") fs (block_line c) (block_text c) refl others (not_over stage on)
@@ -508,9 +508,9 @@ module _ (image : Image) (k : ℕ) (marked : List ℕ) (rows : List (ℕ × Know
       let e = dirties_reached d.later sd p.dirty loaded d.on (third_of (part_of d.later) d.early) fits.dirty m.dirty_sound m.dirty_image (goes_from_none is_dirty_above p.dirty (dirties_above p.dirty m.dirty_sound m.dirty_order)) (goes_from_none dirty_before p.dirty m.dirty_order) in
       let se : StateData Bounded = record sd { dirty = p.dirty } in
       let f = blocks_reached e.later se p.blocks e.on (fourth_of e.later e.on) fits.blocks m.blocks_are (goes_from_none count_before p.blocks m.blocks_order) in
-      let s0 : Reading = part stages.Row no_state in
-      let s1 : Reading = part stages.Regs (record no_state { regs = p.regs }) in
-      let s2 : Reading = part stages.Flags (record no_state { regs = p.regs; flags = p.flags }) in
+      let s0 : TableSoFar = part stages.Row no_state in
+      let s1 : TableSoFar = part stages.Regs (record no_state { regs = p.regs }) in
+      let s2 : TableSoFar = part stages.Flags (record no_state { regs = p.regs; flags = p.flags }) in
       let one : Reaches table_grammar s0 (regs_line p.regs ++ flags_line p.flags) s2 = reaches_both table_grammar s0 s1 s2 (regs_line p.regs) (flags_line p.flags) a b in
       let two : Reaches table_grammar s0 ((regs_line p.regs ++ flags_line p.flags) ++ note_line p.note) (part c.later sc) =
       reaches_both table_grammar s0 s2 (part c.later sc) (regs_line p.regs ++ flags_line p.flags) (note_line p.note) one c.reached
@@ -531,7 +531,7 @@ module _ (image : Image) (k : ℕ) (marked : List ℕ) (rows : List (ℕ × Know
 -- ---- rows and the end
 
 -- rows were read, and the next row or the end goes on behind them
-record IsReady (image : Image) (k : ℕ) (marked : List ℕ) (rows : List (ℕ × Known Bounded)) (s : Reading) : Type 0 where
+record IsReady (image : Image) (k : ℕ) (marked : List ℕ) (rows : List (ℕ × Known Bounded)) (s : TableSoFar) : Type 0 where
   stage : Stage
   at : ℕ
   on : is_over s.stage ≡ false
@@ -541,7 +541,7 @@ record IsReady (image : Image) (k : ℕ) (marked : List ℕ) (rows : List (ℕ �
 ready_first : (image : Image) (k : ℕ) (marked : List ℕ) → IsReady image k marked [] (reading image stages.Marks k marked [] 0 no_state)
 unfolding table_step mark_or_next_step next_step
 ready_first image k marked =
-    let r : Reading = reading image stages.Marks k marked [] 0 no_state in
+    let r : TableSoFar = reading image stages.Marks k marked [] 0 no_state in
     record {
       stage = stages.Marks;
       at = 0;
@@ -554,7 +554,7 @@ ready_later : (image : Image) (k : ℕ) (marked : List ℕ) (rows : List (ℕ ×
     → IsReady image k marked (rows ++ (at, s) ∷ []) (reading image stage k marked rows at (plain_of s))
 unfolding state_step closed next_step
 ready_later image k marked rows at s stage on back =
-    let r : Reading = reading image stage k marked rows at (plain_of s) in
+    let r : TableSoFar = reading image stage k marked rows at (plain_of s) in
     let whole : closed r ≡ Ok (reading image stage k marked (rows ++ (at, s) ∷ []) at no_state) = ap (λ o. closed_by o r) back in
     record {
       stage = stage;
@@ -564,7 +564,7 @@ ready_later image k marked rows at s stage on back =
       end = λ line fs parts. as_state image k marked rows at stage (plain_of s) line (codes "end" ∷ fs) on parts ∙ ap (λ m. after_state m (codes "end") fs) whole;
     }
 
-row_reached : (image : Image) (k : ℕ) (marked : List ℕ) (rows : List (ℕ × Known Bounded)) (s : Reading) (at : ℕ) → IsReady image k marked rows s → is_word at ≡ true
+row_reached : (image : Image) (k : ℕ) (marked : List ℕ) (rows : List (ℕ × Known Bounded)) (s : TableSoFar) (at : ℕ) → IsReady image k marked rows s → is_word at ≡ true
     → Reaches table_grammar s (row_line at) (reading image stages.Row k marked rows at no_state)
 row_reached image k marked rows s at ready small =
     let fs : List (List ℕ) = hex8 at ∷ [] in
@@ -573,12 +573,12 @@ row_reached image k marked rows s at ready small =
     (ready.row (codes "row" ++ spaced fs) fs (parted (codes "row") fs refl others)
     ∙ ap (λ o. or_fault FIELD o (λ n. Ok (reading image stages.Row k marked rows n no_state))) (only_word_read at (word_small at small)))
 
-record RowsRead (image : Image) (k : ℕ) (marked : List ℕ) (s : Reading) (done todo : List (ℕ × Known Bounded)) : Type 0 where
-  later : Reading
+record RowsRead (image : Image) (k : ℕ) (marked : List ℕ) (s : TableSoFar) (done todo : List (ℕ × Known Bounded)) : Type 0 where
+  later : TableSoFar
   ready : IsReady image k marked (done ++ todo) later
   reached : Reaches table_grammar s (flat_map row_text todo) later
 
-rows_reached : (image : Image) (k : ℕ) (marked : List ℕ) (s : Reading) (done todo : List (ℕ × Known Bounded)) → IsLoaded image → IsReady image k marked done s → All FitsRow todo → All (λ row. IsStateOf image row.1) todo
+rows_reached : (image : Image) (k : ℕ) (marked : List ℕ) (s : TableSoFar) (done todo : List (ℕ × Known Bounded)) → IsLoaded image → IsReady image k marked done s → All FitsRow todo → All (λ row. IsStateOf image row.1) todo
     → RowsRead image k marked s done todo
 rows_reached image k marked s done [] loaded ready fits are = record {
   later = s;
@@ -590,9 +590,9 @@ rows_reached image k marked s done (row ∷ todo) loaded ready fits are =
     let is : IsStateOf image row.1 = All-head (λ (x : ℕ × Known Bounded). IsStateOf image x.1) row todo are in
     let back : built bounded image (plain_of row.1) ≡ Some row.1 = plain-built bounded image row.1 is.well is.bytes in
     let p : StateData Bounded = plain_of row.1 in
-    let head : Reading = reading image stages.Row k marked done row.0 no_state in
+    let head : TableSoFar = reading image stages.Row k marked done row.0 no_state in
     let state = state_reached image k marked done row.0 row.1 loaded own.state is back in
-    let next : Reading = reading image state.later k marked done row.0 p in
+    let next : TableSoFar = reading image state.later k marked done row.0 p in
     let one : Reaches table_grammar s (row_text row) next = reaches_both table_grammar s head next (row_line row.0) (state_text p) (row_reached image k marked done s row.0 ready own.at) state.reached in
     let rest : RowsRead image k marked next (done ++ row ∷ []) todo =
     rows_reached image k marked next (done ++ row ∷ []) todo loaded (ready_later image k marked done row.0 row.1 state.later state.on back) (All-tail FitsRow row todo fits) (All-tail (λ (x : ℕ × Known Bounded). IsStateOf image x.1) row todo are)
@@ -603,16 +603,16 @@ rows_reached image k marked s done (row ∷ todo) loaded ready fits are =
       reached = reaches_both table_grammar s next rest.later (row_text row) (flat_map row_text todo) one rest.reached;
     }
 
-count_back : (r : Reading) → length r.rows < 2 ^ 64 → count_fields r (decimal (length r.rows) ∷ []) ≡ Some true
+count_back : (r : TableSoFar) → length r.rows < 2 ^ 64 → count_fields r (decimal (length r.rows) ∷ []) ≡ Some true
 unfolding count_fields
 count_back r few = then_given (decimal_is (length r.rows)) (decimal (length r.rows)) [] true (λ same fs. no_more same fs) (number_written (length r.rows) few)
 
-end_reached : (image : Image) (k : ℕ) (marked : List ℕ) (rows : List (ℕ × Known Bounded)) (s : Reading) (ready : IsReady image k marked rows s) → length rows < 2 ^ 64
+end_reached : (image : Image) (k : ℕ) (marked : List ℕ) (rows : List (ℕ × Known Bounded)) (s : TableSoFar) (ready : IsReady image k marked rows s) → length rows < 2 ^ 64
     → Reaches table_grammar s (end_line (length rows)) (reading image stages.Ended k marked rows ready.at no_state)
 unfolding end_step
 end_reached image k marked rows s ready few =
-    let r : Reading = reading image ready.stage k marked rows ready.at no_state in
-    let u : Reading = reading image stages.Ended k marked rows ready.at no_state in
+    let r : TableSoFar = reading image ready.stage k marked rows ready.at no_state in
+    let u : TableSoFar = reading image stages.Ended k marked rows ready.at no_state in
     let fs : List (List ℕ) = decimal (length rows) ∷ [] in
     let others : list_all is_plain fs ≡ true = one_plain (decimal (length rows)) (plain_decimal (length rows) few) in
     taken_line s u (codes "end") fs (end_line (length rows)) (end_text (length rows)) refl others ready.on
@@ -627,11 +627,11 @@ read_back image t loaded fits is =
     let k = t.k in
     let marked = t.marked in
     let rows = t.rows in
-    let h : Reading = reading image stages.Header 0 [] [] 0 no_state in
-    let b : Reading = reading image stages.Marks k [] [] 0 no_state in
-    let m : Reading = reading image stages.Marks k marked [] 0 no_state in
+    let h : TableSoFar = reading image stages.Header 0 [] [] 0 no_state in
+    let b : TableSoFar = reading image stages.Marks k [] [] 0 no_state in
+    let m : TableSoFar = reading image stages.Marks k marked [] 0 no_state in
     let all : RowsRead image k marked m [] rows = rows_reached image k marked m [] rows loaded (ready_first image k marked) fits.rows is.rows in
-    let u : Reading = reading image stages.Ended k marked rows all.ready.at no_state in
+    let u : TableSoFar = reading image stages.Ended k marked rows all.ready.at no_state in
     let one : Reaches table_grammar (nothing image) ((header_text ++ newline) ++ k_line k) b = reaches_both table_grammar (nothing image) h b (header_text ++ newline) (k_line k) (header_reached image) (k_reached image k is.k_least is.k_greatest) in
     let two : Reaches table_grammar (nothing image) (((header_text ++ newline) ++ k_line k) ++ flat_map open_line marked) m =
     reaches_both table_grammar (nothing image) b m ((header_text ++ newline) ++ k_line k) (flat_map open_line marked) one (marks_reached image k [] marked fits.marked (goes_from_none is_above marked is.marked))

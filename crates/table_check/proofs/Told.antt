@@ -47,7 +47,7 @@ use Rattle.table_check.specs.declared.stage.Stage.{Stage}
 use Rattle.table_check.specs.declared.stage.Stage.TheVariants as stages
 use Rattle.table_check.specs.Fields.{block_fields, dirty_fields, fact_fields, flags_fields, k_fields, note_fields, regs_fields}
 use Rattle.table_check.specs.TextLaws.{IsStateOf, IsTableOf, TextsTellTables, are_made, is_above, is_made}
-use Rattle.table_check.specs.Reading.{Reading, block_step, closed, closed_by, count_fields, dirty_step, end_step, fact_step, flags_step, header_step, is_dirty_above, is_fact_above, is_over, k_step, mark_or_next_step, after_state, mark_step, next_step, no_state, note_step, nothing, part_of, regs_step, row_step, state_step, step_after, table_grammar, table_read, table_step, told}
+use Rattle.table_check.specs.Reading.{TableSoFar, block_step, closed, closed_by, count_fields, dirty_step, end_step, fact_step, flags_step, header_step, is_dirty_above, is_fact_above, is_over, k_step, mark_or_next_step, after_state, mark_step, next_step, no_state, note_step, nothing, part_of, regs_step, row_step, state_step, step_after, table_grammar, table_read, table_step, told}
 use Rattle.table_check.specs.Text.{area_text, block_line, count_text, dirty_line, end_line, fact_line, flags_line, header_text, k_line, note_line, offset_text, open_line, region_text, regs_line, row_line, row_text, state_text, table_text, truth_code, value_text}
 use Rattle.table_check.proofs.FieldsTold.{block_list, block_told, dirty_list, dirty_told, fact_list, fact_made, fact_told, flags_told, k_told, note_list, note_small, note_told, regs_told}
 use Rattle.std.proofs.lemmas.Bool.{and_parts, and_from}
@@ -56,13 +56,13 @@ use Rattle.text_fields.proofs.LastOnes.{last_of_later}
 
 -- ---- what was told so far
 
-abbrev pub front : Reading → List ℕ
+abbrev pub front : TableSoFar → List ℕ
 front r = header_text ++ newline ++ k_line r.k ++ flat_map open_line r.marked ++ flat_map row_text r.rows
 
-abbrev pub said_state : Reading → List ℕ
+abbrev pub said_state : TableSoFar → List ℕ
 said_state r = (front r ++ row_line r.at) ++ state_text r.state
 
-abbrev pub said_at : Stage → Reading → List ℕ
+abbrev pub said_at : Stage → TableSoFar → List ℕ
 said_at stages.Start r = []
 said_at stages.Header r = header_text ++ newline
 said_at stages.Marks r = front r
@@ -79,7 +79,7 @@ abbrev IsClear : StateData Bounded → Type 0
 IsClear s = (s.note ≡ None) × (s.facts ≡ []) × (s.dirty ≡ []) × (s.blocks ≡ [])
 
 -- nothing is there before its turn
-abbrev pub IsBegun : Stage → Reading → Type 0
+abbrev pub IsBegun : Stage → TableSoFar → Type 0
 IsBegun stages.Start r = (r.marked ≡ []) × (r.rows ≡ []) × IsClear r.state
 IsBegun stages.Header r = (r.marked ≡ []) × (r.rows ≡ []) × IsClear r.state
 IsBegun stages.Marks r = (r.rows ≡ []) × IsClear r.state
@@ -100,7 +100,7 @@ HasK stages.Start k = Unit {0}
 HasK stages.Header k = Unit {0}
 HasK _ k = is_k k ≡ true
 
-pub record KeepsAt (stage : Stage) (r : Reading) : Type 0 where
+pub record KeepsAt (stage : Stage) (r : TableSoFar) : Type 0 where
   pub begun : IsBegun stage r
   pub k : HasK stage r.k
   pub marked : ascend is_above r.marked ≡ true
@@ -109,7 +109,7 @@ pub record KeepsAt (stage : Stage) (r : Reading) : Type 0 where
   pub noted : ForSome r.state.note IsWellNote
 
 -- what one more line leaves; it is said again where the rows can be counted, so in each text of fewer bytes than 2^64
-pub record Adds (stage : Stage) (r t : Reading) (line : List ℕ) : Type 0 where
+pub record Adds (stage : Stage) (r t : TableSoFar) (line : List ℕ) : Type 0 where
   pub kept : KeepsAt t.stage t
   pub text : length (said_at stage r) < 2 ^ 64 → said_at t.stage t ≡ said_at stage r ++ (line ++ newline)
   pub image : t.image ≡ r.image
@@ -178,11 +178,11 @@ block_text c = ap (λ l. codes "block " ++ l) (two_fields (region_text c.region)
 
 -- ---- before the rows
 
-header_by : (r t : Reading) (line : List ℕ) → KeepsAt stages.Start r → header_step r line ≡ Ok t → Adds stages.Start r t line
+header_by : (r t : TableSoFar) (line : List ℕ) → KeepsAt stages.Start r → header_step r line ≡ Ok t → Adds stages.Start r t line
 header_by r t line kept h =
-    let u : Reading = record r { stage = stages.Header } in
+    let u : TableSoFar = record r { stage = stages.Header } in
     let i : (bytes_eq line header_text ≡ true) × (Ok u ≡ Ok t) = if_ok (bytes_eq line header_text) HEADER (Ok u) t h in
-    subst (λ (x : Reading). Adds stages.Start r x line) (same_ok u t i.1) (record {
+    subst (λ (x : TableSoFar). Adds stages.Start r x line) (same_ok u t i.1) (record {
       kept = record { begun = kept.begun; k = tt; marked = kept.marked; rows = kept.rows; made = kept.made; noted = kept.noted };
       text = λ _. sym (ap (λ l. l ++ newline) (same_word line header_text i.0));
       image = refl;
@@ -195,16 +195,16 @@ k_added : (k : ℕ) (marked : List ℕ) (rows : List (ℕ × Known Bounded)) (li
     → header_text ++ newline ++ k_line k ++ flat_map open_line marked ++ flat_map row_text rows ≡ (header_text ++ newline) ++ line
 k_added k marked rows line unmarked empty is = rw (unmarked, empty, is) (two_nils ((header_text ++ newline) ++ k_line k))
 
-k_by : (r t : Reading) (line : List ℕ) (fs : List (List ℕ)) → KeepsAt stages.Header r → fields line ≡ fs → k_step r fs ≡ Ok t → Adds stages.Header r t line
+k_by : (r t : TableSoFar) (line : List ℕ) (fs : List (List ℕ)) → KeepsAt stages.Header r → fields line ≡ fs → k_step r fs ≡ Ok t → Adds stages.Header r t line
 k_by r t line [] kept parts h = cc
 k_by r t line (word ∷ fs) kept parts h =
-    let go : ℕ → Result Reading ℕ = λ k. Ok (record r { stage = stages.Marks; k = k }) in
+    let go : ℕ → Result TableSoFar ℕ = λ k. Ok (record r { stage = stages.Marks; k = k }) in
     let w : (bytes_eq word (codes "k") ≡ true) × (or_fault FIELD (k_fields fs) go ≡ Ok t) = if_ok (bytes_eq word (codes "k")) WORD (or_fault FIELD (k_fields fs) go) t h in
     let f : (k : ℕ) × (k_fields fs ≡ Some k) × (go k ≡ Ok t) = found_ok FIELD (k_fields fs) go t w.1 in
     let told_k : (fs ≡ decimal f.0 ∷ []) × (is_k f.0 ≡ true) = k_told fs f.0 f.1 in
     let whole : line ++ newline ≡ k_line f.0 = ap (λ l. l ++ newline) (worded line word (codes "k") fs (decimal f.0 ∷ []) parts w.0 told_k.0) ∙ k_text f.0 in
-    let u : Reading = record r { stage = stages.Marks; k = f.0 } in
-    subst (λ (x : Reading). Adds stages.Header r x line) (same_ok u t f.2) (record {
+    let u : TableSoFar = record r { stage = stages.Marks; k = f.0 } in
+    subst (λ (x : TableSoFar). Adds stages.Header r x line) (same_ok u t f.2) (record {
       kept = record { begun = (kept.begun.1, kept.begun.2); k = told_k.1; marked = kept.marked; rows = kept.rows; made = kept.made; noted = kept.noted };
       text = λ _. k_added f.0 r.marked r.rows (line ++ newline) kept.begun.0 kept.begun.1 whole;
       image = refl;
@@ -223,16 +223,16 @@ ascend_more test (y ∷ z ∷ zs) x so here =
     and_from (test y z) (ascend test (z ∷ (zs ++ x ∷ []))) parts.0
     (ascend_more test (z ∷ zs) x parts.1 (ap (λ o. option_map_or (λ l. test l x) o true) (sym (last_of_later y z zs)) ∙ here))
 
-mark_by : (r t : Reading) (line : List ℕ) (at : ℕ) → KeepsAt stages.Marks r → r.stage ≡ stages.Marks → line ++ newline ≡ open_line at → mark_step r at ≡ Ok t → Adds stages.Marks r t line
+mark_by : (r t : TableSoFar) (line : List ℕ) (at : ℕ) → KeepsAt stages.Marks r → r.stage ≡ stages.Marks → line ++ newline ≡ open_line at → mark_step r at ≡ Ok t → Adds stages.Marks r t line
 unfolding mark_step
 mark_by r t line at kept here whole h =
-    let u : Reading = record r { marked = r.marked ++ at ∷ [] } in
+    let u : TableSoFar = record r { marked = r.marked ++ at ∷ [] } in
     let i : (follows_last nat_lt r.marked at ≡ true) × (Ok u ≡ Ok t) = if_ok (follows_last nat_lt r.marked at) ORDER (Ok u) t h in
     let marks : ascend is_above (r.marked ++ at ∷ []) ≡ true = ascend_more is_above r.marked at kept.marked i.0 in
     let own : KeepsAt stages.Marks u = record { begun = kept.begun; k = kept.k; marked = marks; rows = kept.rows; made = kept.made; noted = kept.noted } in
     let P : Stage → Type 0 = λ s. KeepsAt s u in
     let said_u : said_at r.stage u ≡ front u = ap (λ s. said_at s u) here in
-    subst (λ (x : Reading). Adds stages.Marks r x line) (same_ok u t i.1) (record {
+    subst (λ (x : TableSoFar). Adds stages.Marks r x line) (same_ok u t i.1) (record {
       kept = subst P (sym here) own;
       text = λ _. said_u ∙ mark_added (header_text ++ newline ++ k_line r.k) r.marked r.rows at (line ++ newline) kept.begun.0 whole;
       image = refl;
@@ -241,7 +241,7 @@ mark_by r t line at kept here whole h =
 -- ---- a row, its registers and its flags
 
 -- the lines before a row or the end, as they were told: those of whole rows
-pub record IsWhole (stage : Stage) (r u : Reading) : Type 0 where
+pub record IsWhole (stage : Stage) (r u : TableSoFar) : Type 0 where
   pub text : front u ≡ said_at stage r
   pub image : u.image ≡ r.image
   pub clear : IsClear u.state
@@ -265,7 +265,7 @@ some_row row =
     let head : 0 < length (row_line row.0) = omega arith in
     omega arith
 
-few_rows : (r : Reading) → length (front r) < 2 ^ 64 → length r.rows < 2 ^ 64
+few_rows : (r : TableSoFar) → length (front r) < 2 ^ 64 → length r.rows < 2 ^ 64
 few_rows r short =
     let before : List ℕ = header_text ++ newline ++ k_line r.k ++ flat_map open_line r.marked in
     let whole : length (before ++ flat_map row_text r.rows) ≡ length before + length (flat_map row_text r.rows) = length-append before (flat_map row_text r.rows) in
@@ -273,16 +273,16 @@ few_rows r short =
     let all : length (before ++ flat_map row_text r.rows) < 2 ^ 64 = short in
     omega arith
 
-few_whole : (stage : Stage) (r u : Reading) → IsWhole stage r u → length (said_at stage r) < 2 ^ 64 → length u.rows < 2 ^ 64
+few_whole : (stage : Stage) (r u : TableSoFar) → IsWhole stage r u → length (said_at stage r) < 2 ^ 64 → length u.rows < 2 ^ 64
 few_whole stage r u w short = few_rows u (subst (λ l. length l < 2 ^ 64) (sym w.text) short)
 
-row_by : (stage : Stage) (r u t : Reading) (line word : List ℕ) (fs : List (List ℕ)) → IsWhole stage r u → fields line ≡ word ∷ fs → bytes_eq word (codes "row") ≡ true → row_step u fs ≡ Ok t → Adds stage r t line
+row_by : (stage : Stage) (r u t : TableSoFar) (line word : List ℕ) (fs : List (List ℕ)) → IsWhole stage r u → fields line ≡ word ∷ fs → bytes_eq word (codes "row") ≡ true → row_step u fs ≡ Ok t → Adds stage r t line
 row_by stage r u t line word fs w parts is h =
-    let go : ℕ → Result Reading ℕ = λ at. Ok (record u { stage = stages.Row; at = at }) in
+    let go : ℕ → Result TableSoFar ℕ = λ at. Ok (record u { stage = stages.Row; at = at }) in
     let f : (at : ℕ) × (only_word fs ≡ Some at) × (go at ≡ Ok t) = found_ok FIELD (only_word fs) go t h in
     let whole : line ++ newline ≡ row_line f.0 = ap (λ l. l ++ newline) (worded line word (codes "row") fs (hex8 f.0 ∷ []) parts is (only_word_is fs f.0 f.1)) ∙ row_head f.0 in
-    let v : Reading = record u { stage = stages.Row; at = f.0 } in
-    subst (λ (x : Reading). Adds stage r x line) (same_ok v t f.2) (record {
+    let v : TableSoFar = record u { stage = stages.Row; at = f.0 } in
+    subst (λ (x : TableSoFar). Adds stage r x line) (same_ok v t f.2) (record {
       kept = record { begun = w.clear; k = w.k; marked = w.marked; rows = w.rows; made = w.made; noted = unnoted w.clear.0 };
       text = λ _. ap (λ l. l ++ row_line f.0) w.text ∙ ap (λ l. said_at stage r ++ l) (sym whole);
       image = w.image;
@@ -291,52 +291,52 @@ row_by stage r u t line word fs w parts is h =
 below : (a b : ℕ) → nat_lt a b ≡ true → a < b
 below a b e = grind (arith, nat_tests)
 
-count_told : (r : Reading) (fs : List (List ℕ)) → length r.rows < 2 ^ 64 → count_fields r fs ≡ Some true → fs ≡ decimal (length r.rows) ∷ []
+count_told : (r : TableSoFar) (fs : List (List ℕ)) → length r.rows < 2 ^ 64 → count_fields r fs ≡ Some true → fs ≡ decimal (length r.rows) ∷ []
 unfolding count_fields
 count_told r fs few h =
     let f = has_field (decimal_is (length r.rows)) fs (λ same fs. no_more same fs) true h in
     let d = is_done f.value true f.others f.after in
     f.begins ∙ ap (λ gs. f.field ∷ gs) d.none ∙ ap (λ l. l ∷ []) (number_told f.field (length r.rows) few (f.gives ∙ ap Some d.same))
 
-end_by : (stage : Stage) (r u t : Reading) (line word : List ℕ) (fs : List (List ℕ)) → IsWhole stage r u → fields line ≡ word ∷ fs → bytes_eq word (codes "end") ≡ true → end_step u fs ≡ Ok t → Adds stage r t line
+end_by : (stage : Stage) (r u t : TableSoFar) (line word : List ℕ) (fs : List (List ℕ)) → IsWhole stage r u → fields line ≡ word ∷ fs → bytes_eq word (codes "end") ≡ true → end_step u fs ≡ Ok t → Adds stage r t line
 unfolding end_step
 end_by stage r u t line word fs w parts is h =
-    let v : Reading = record u { stage = stages.Ended } in
-    let go : Bool → Result Reading ℕ = λ same. demand same COUNT (Ok v) in
+    let v : TableSoFar = record u { stage = stages.Ended } in
+    let go : Bool → Result TableSoFar ℕ = λ same. demand same COUNT (Ok v) in
     let f : (same : Bool) × (count_fields u fs ≡ Some same) × (go same ≡ Ok t) = found_ok FIELD (count_fields u fs) go t h in
     let i : (f.0 ≡ true) × (Ok v ≡ Ok t) = if_ok f.0 COUNT (Ok v) t f.2 in
     let counted : length u.rows < 2 ^ 64 → fs ≡ decimal (length u.rows) ∷ [] = λ few. count_told u fs few (f.1 ∙ ap Some i.0) in
     let whole : length u.rows < 2 ^ 64 → line ++ newline ≡ end_line (length u.rows) =
     λ few. ap (λ l. l ++ newline) (worded line word (codes "end") fs (decimal (length u.rows) ∷ []) parts is (counted few)) ∙ end_text (length u.rows)
     in
-    subst (λ (x : Reading). Adds stage r x line) (same_ok v t i.1) (record {
+    subst (λ (x : TableSoFar). Adds stage r x line) (same_ok v t i.1) (record {
       kept = record { begun = tt; k = w.k; marked = w.marked; rows = w.rows; made = w.made; noted = unnoted w.clear.0 };
       text = λ short. ap (λ l. l ++ end_line (length u.rows)) w.text ∙ ap (λ l. said_at stage r ++ l) (sym (whole (few_whole stage r u w short)));
       image = w.image;
     })
 
-next_by : (stage : Stage) (r u t : Reading) (line word : List ℕ) (fs : List (List ℕ)) (row end : Bool) → IsWhole stage r u → fields line ≡ word ∷ fs
+next_by : (stage : Stage) (r u t : TableSoFar) (line word : List ℕ) (fs : List (List ℕ)) (row end : Bool) → IsWhole stage r u → fields line ≡ word ∷ fs
     → bytes_eq word (codes "row") ≡ row → bytes_eq word (codes "end") ≡ end
     → (if row then row_step u fs else if end then end_step u fs else Err WORD) ≡ Ok t → Adds stage r t line
 next_by stage r u t line word fs true end w parts a b h = row_by stage r u t line word fs w parts a h
 next_by stage r u t line word fs false true w parts a b h = end_by stage r u t line word fs w parts b h
 next_by stage r u t line word fs false false w parts a b h = cc
 
-after_whole : (stage : Stage) (r u t : Reading) (line word : List ℕ) (fs : List (List ℕ)) → IsWhole stage r u → fields line ≡ word ∷ fs → next_step u word fs ≡ Ok t → Adds stage r t line
+after_whole : (stage : Stage) (r u t : TableSoFar) (line word : List ℕ) (fs : List (List ℕ)) → IsWhole stage r u → fields line ≡ word ∷ fs → next_step u word fs ≡ Ok t → Adds stage r t line
 unfolding next_step
 after_whole stage r u t line word fs w parts h = next_by stage r u t line word fs (bytes_eq word (codes "row")) (bytes_eq word (codes "end")) w parts refl refl h
 
-regs_by : (r t : Reading) (line : List ℕ) (fs : List (List ℕ)) → KeepsAt stages.Row r → fields line ≡ fs → regs_step r fs ≡ Ok t → Adds stages.Row r t line
+regs_by : (r t : TableSoFar) (line : List ℕ) (fs : List (List ℕ)) → KeepsAt stages.Row r → fields line ≡ fs → regs_step r fs ≡ Ok t → Adds stages.Row r t line
 regs_by r t line [] kept parts h = cc
 regs_by r t line (word ∷ fs) kept parts h =
-    let go : List Bounded → Result Reading ℕ = λ regs. Ok (record r { stage = stages.Regs; state = record (r.state) { regs = regs } }) in
+    let go : List Bounded → Result TableSoFar ℕ = λ regs. Ok (record r { stage = stages.Regs; state = record (r.state) { regs = regs } }) in
     let w : (bytes_eq word (codes "regs") ≡ true) × (or_fault FIELD (regs_fields fs) go ≡ Ok t) = if_ok (bytes_eq word (codes "regs")) WORD (or_fault FIELD (regs_fields fs) go) t h in
     let f : (vs : List Bounded) × (regs_fields fs ≡ Some vs) × (go vs ≡ Ok t) = found_ok FIELD (regs_fields fs) go t w.1 in
     let values : (fs ≡ map value_text f.0) × (list_all is_made f.0 ≡ true) = regs_told fs f.0 f.1 in
     let whole : line ++ newline ≡ regs_line f.0 = ap (λ l. l ++ newline) (worded line word (codes "regs") fs (map value_text f.0) parts w.0 values.0) ∙ regs_text f.0 in
     let others : (list_all is_made r.state.regs ≡ true) × (list_all (λ (x : Fact Bounded). is_made x.value) r.state.facts ≡ true) = and_parts (list_all is_made r.state.regs) (list_all (λ (x : Fact Bounded). is_made x.value) r.state.facts) kept.made in
-    let u : Reading = record r { stage = stages.Regs; state = record (r.state) { regs = f.0 } } in
-    subst (λ (x : Reading). Adds stages.Row r x line) (same_ok u t f.2) (record {
+    let u : TableSoFar = record r { stage = stages.Regs; state = record (r.state) { regs = f.0 } } in
+    subst (λ (x : TableSoFar). Adds stages.Row r x line) (same_ok u t f.2) (record {
       kept = record {
         begun = kept.begun;
         k = kept.k;
@@ -358,17 +358,17 @@ flags_added : (base regs : List ℕ) (flags : List Truth) (said : Option Note) (
     → base ++ (regs ++ flags_line flags ++ note_line said ++ flat_map fact_line facts ++ flat_map dirty_line dirty ++ flat_map block_line blocks) ≡ (base ++ regs) ++ line
 flags_added base regs flags said facts dirty blocks line a b c d is = rw (a, b, c, d, is) (rw note_line-none (simp (append_assoc, append-nil)))
 
-flags_by : (r t : Reading) (line : List ℕ) (fs : List (List ℕ)) → KeepsAt stages.Regs r → fields line ≡ fs → flags_step r fs ≡ Ok t → Adds stages.Regs r t line
+flags_by : (r t : TableSoFar) (line : List ℕ) (fs : List (List ℕ)) → KeepsAt stages.Regs r → fields line ≡ fs → flags_step r fs ≡ Ok t → Adds stages.Regs r t line
 unfolding state_text
 flags_by r t line [] kept parts h = cc
 flags_by r t line (word ∷ fs) kept parts h =
-    let go : List Truth → Result Reading ℕ = λ flags. Ok (record r { stage = stages.Flags; state = record (r.state) { flags = flags } }) in
+    let go : List Truth → Result TableSoFar ℕ = λ flags. Ok (record r { stage = stages.Flags; state = record (r.state) { flags = flags } }) in
     let w : (bytes_eq word (codes "flags") ≡ true) × (or_fault FIELD (flags_fields fs) go ≡ Ok t) = if_ok (bytes_eq word (codes "flags")) WORD (or_fault FIELD (flags_fields fs) go) t h in
     let f : (ts : List Truth) × (flags_fields fs ≡ Some ts) × (go ts ≡ Ok t) = found_ok FIELD (flags_fields fs) go t w.1 in
     let whole : line ++ newline ≡ flags_line f.0 = ap (λ l. l ++ newline) (worded line word (codes "flags") fs (map truth_code f.0 ∷ []) parts w.0 (flags_told fs f.0 f.1)) ∙ flags_text f.0 in
-    let u : Reading = record r { stage = stages.Flags; state = record (r.state) { flags = f.0 } } in
+    let u : TableSoFar = record r { stage = stages.Flags; state = record (r.state) { flags = f.0 } } in
     let s : StateData Bounded = r.state in
-    subst (λ (x : Reading). Adds stages.Regs r x line) (same_ok u t f.2) (record {
+    subst (λ (x : TableSoFar). Adds stages.Regs r x line) (same_ok u t f.2) (record {
       kept = record { begun = kept.begun; k = kept.k; marked = kept.marked; rows = kept.rows; made = kept.made; noted = kept.noted };
       text = λ _. flags_added (front r ++ row_line r.at) (regs_line s.regs) f.0 s.note s.facts s.dirty s.blocks (line ++ newline) kept.begun.0 kept.begun.1 kept.begun.2 kept.begun.3 whole;
       image = refl;
@@ -377,7 +377,7 @@ flags_by r t line (word ∷ fs) kept parts h =
 -- ---- the other lines of a state
 
 -- a stage of a state's lines, and what is so there
-pub record IsPart (stage : Stage) (r : Reading) : Type 0 where
+pub record IsPart (stage : Stage) (r : TableSoFar) : Type 0 where
   pub clear : nat_lt (part_of stage) 1 ≡ true → IsClear r.state
   pub undirtied : nat_le (part_of stage) 2 ≡ true → (r.state.dirty ≡ []) × (r.state.blocks ≡ [])
   pub uncounted : nat_le (part_of stage) 3 ≡ true → r.state.blocks ≡ []
@@ -425,16 +425,16 @@ note_of (Word o c) e small = (inside-of (interval_at (In Stack) o (pos 4)) e, sm
 now_noted : (n : Note) → IsWellNote n → ForSome (Some n) IsWellNote
 now_noted n well m e = let same : n ≡ m = cc in subst IsWellNote same well
 
-module _ (stage : Stage) (r t : Reading) (line : List ℕ) (part : IsPart stage r) where
-  adds : (u : Reading) → ◌≡◌ {A = Result Reading ℕ} (Ok u) (Ok t) → KeepsAt u.stage u → said_at u.stage u ≡ said_state r ++ (line ++ newline) → u.image ≡ r.image → Adds stage r t line
+module _ (stage : Stage) (r t : TableSoFar) (line : List ℕ) (part : IsPart stage r) where
+  adds : (u : TableSoFar) → ◌≡◌ {A = Result TableSoFar ℕ} (Ok u) (Ok t) → KeepsAt u.stage u → said_at u.stage u ≡ said_state r ++ (line ++ newline) → u.image ≡ r.image → Adds stage r t line
   adds u h kept text image =
-      subst (λ (x : Reading). Adds stage r x line) (same_ok u t h) (record { kept = kept; text = λ _. text ∙ ap (λ l. l ++ (line ++ newline)) (sym part.tells); image = image })
+      subst (λ (x : TableSoFar). Adds stage r x line) (same_ok u t h) (record { kept = kept; text = λ _. text ∙ ap (λ l. l ++ (line ++ newline)) (sym part.tells); image = image })
 
   note_by : (n : Note) → nat_lt (part_of stage) 1 ≡ true → compared_with n < 2 ^ 32 → line ++ newline ≡ note_line (Some n) → note_step r n ≡ Ok t → Adds stage r t line
   unfolding note_step state_text
   note_by n first small whole h =
       let s : StateData Bounded = r.state in
-      let u : Reading = record r { stage = stages.Note; state = record (r.state) { note = Some n } } in
+      let u : TableSoFar = record r { stage = stages.Note; state = record (r.state) { note = Some n } } in
       let i : (is_well_note n ≡ true) × (Ok u ≡ Ok t) = if_ok (is_well_note n) CONTENT (Ok u) t h in
       let c = part.clear first in
       adds u i.1 (record { begun = (c.1, c.2, c.3); k = part.k; marked = part.marked; rows = part.rows; made = part.made; noted = now_noted n (note_of n i.0 small) })
@@ -444,7 +444,7 @@ module _ (stage : Stage) (r t : Reading) (line : List ℕ) (part : IsPart stage 
   unfolding fact_step state_text
   fact_by f on made whole h =
       let s : StateData Bounded = r.state in
-      let u : Reading = record r { stage = stages.Facts; state = record (r.state) { facts = r.state.facts ++ f ∷ [] } } in
+      let u : TableSoFar = record r { stage = stages.Facts; state = record (r.state) { facts = r.state.facts ++ f ∷ [] } } in
       let content : Bool = is_sound_fact bounded f && (is_fact_of r.image f && follows_last fact_before r.state.facts f) in
       let i : (follows_last is_fact_above r.state.facts f ≡ true) × (demand content CONTENT (Ok u) ≡ Ok t) = if_ok (follows_last is_fact_above r.state.facts f) ORDER (demand content CONTENT (Ok u)) t h in
       let j : (content ≡ true) × (Ok u ≡ Ok t) = if_ok content CONTENT (Ok u) t i.1 in
@@ -456,7 +456,7 @@ module _ (stage : Stage) (r t : Reading) (line : List ℕ) (part : IsPart stage 
   unfolding dirty_step state_text
   dirty_by d on whole h =
       let s : StateData Bounded = r.state in
-      let u : Reading = record r { stage = stages.Dirty; state = record (r.state) { dirty = r.state.dirty ++ d ∷ [] } } in
+      let u : TableSoFar = record r { stage = stages.Dirty; state = record (r.state) { dirty = r.state.dirty ++ d ∷ [] } } in
       let content : Bool = is_sound_dirty d && (is_dirty_of r.image d && follows_last dirty_before r.state.dirty d) in
       let i : (follows_last is_dirty_above r.state.dirty d ≡ true) × (demand content CONTENT (Ok u) ≡ Ok t) = if_ok (follows_last is_dirty_above r.state.dirty d) ORDER (demand content CONTENT (Ok u)) t h in
       let j : (content ≡ true) × (Ok u ≡ Ok t) = if_ok content CONTENT (Ok u) t i.1 in
@@ -467,13 +467,13 @@ module _ (stage : Stage) (r t : Reading) (line : List ℕ) (part : IsPart stage 
   unfolding block_step state_text
   block_by c whole h =
       let s : StateData Bounded = r.state in
-      let u : Reading = record r { stage = stages.Blocks; state = record (r.state) { blocks = r.state.blocks ++ c ∷ [] } } in
+      let u : TableSoFar = record r { stage = stages.Blocks; state = record (r.state) { blocks = r.state.blocks ++ c ∷ [] } } in
       let i : (follows_last count_before r.state.blocks c ≡ true) × (demand (is_block c) CONTENT (Ok u) ≡ Ok t) = if_ok (follows_last count_before r.state.blocks c) ORDER (demand (is_block c) CONTENT (Ok u)) t h in
       let j : (is_block c ≡ true) × (Ok u ≡ Ok t) = if_ok (is_block c) CONTENT (Ok u) t i.1 in
       adds u j.1 (record { begun = tt; k = part.k; marked = part.marked; rows = part.rows; made = part.made; noted = part.noted })
       (block_added (front r ++ row_line r.at) (regs_line s.regs ++ flags_line s.flags ++ note_line s.note ++ flat_map fact_line s.facts ++ flat_map dirty_line s.dirty) s.blocks c (line ++ newline) whole) refl
 
-part_at : (stage : Stage) (r : Reading) → nat_le (part_of stage) 4 ≡ true → KeepsAt stage r → (said_at stage r ≡ said_state r) → (is_k r.k ≡ true)
+part_at : (stage : Stage) (r : TableSoFar) → nat_le (part_of stage) 4 ≡ true → KeepsAt stage r → (said_at stage r ≡ said_state r) → (is_k r.k ≡ true)
     → (nat_lt (part_of stage) 1 ≡ true → IsClear r.state) → (nat_le (part_of stage) 2 ≡ true → (r.state.dirty ≡ []) × (r.state.blocks ≡ [])) → (nat_le (part_of stage) 3 ≡ true → r.state.blocks ≡ []) → IsPart stage r
 part_at stage r four kept tells k clear undirtied uncounted =
     record { clear = clear; undirtied = undirtied; uncounted = uncounted; tells = tells; k = k; marked = kept.marked; rows = kept.rows; made = kept.made; noted = kept.noted }
@@ -481,27 +481,27 @@ part_at stage r four kept tells k clear undirtied uncounted =
 never : {A : Type 0} → false ≡ true → A
 never e = absurd (cc)
 
-part-flags : (r : Reading) → KeepsAt stages.Flags r → IsPart stages.Flags r
+part-flags : (r : TableSoFar) → KeepsAt stages.Flags r → IsPart stages.Flags r
 part-flags r kept =
     let b = kept.begun in
     part_at stages.Flags r refl kept refl kept.k (λ e. b) (λ e. (b.2, b.3)) (λ e. b.3)
 
-part-note : (r : Reading) → KeepsAt stages.Note r → IsPart stages.Note r
+part-note : (r : TableSoFar) → KeepsAt stages.Note r → IsPart stages.Note r
 part-note r kept =
     let b = kept.begun in
     part_at stages.Note r refl kept refl kept.k (λ e. never e) (λ e. (b.1, b.2)) (λ e. b.2)
 
-part-facts : (r : Reading) → KeepsAt stages.Facts r → IsPart stages.Facts r
+part-facts : (r : TableSoFar) → KeepsAt stages.Facts r → IsPart stages.Facts r
 part-facts r kept =
     let b = kept.begun in
     part_at stages.Facts r refl kept refl kept.k (λ e. never e) (λ e. b) (λ e. b.1)
 
-part-dirty : (r : Reading) → KeepsAt stages.Dirty r → IsPart stages.Dirty r
+part-dirty : (r : TableSoFar) → KeepsAt stages.Dirty r → IsPart stages.Dirty r
 part-dirty r kept =
     let b = kept.begun in
     part_at stages.Dirty r refl kept refl kept.k (λ e. never e) (λ e. never e) (λ e. b)
 
-part-blocks : (r : Reading) → KeepsAt stages.Blocks r → IsPart stages.Blocks r
+part-blocks : (r : TableSoFar) → KeepsAt stages.Blocks r → IsPart stages.Blocks r
 part-blocks r kept = part_at stages.Blocks r refl kept refl kept.k (λ e. never e) (λ e. never e) (λ e. never e)
 
 -- ---- the end of a state
@@ -516,8 +516,8 @@ rows_added base rows at s p is =
     ∙ ap (λ (q : StateData Bounded). base ++ (flat_map row_text rows ++ (row_line at ++ state_text q))) is
     ∙ four_parts base (flat_map row_text rows) (row_line at) (state_text p)
 
-closed_by-ok : (r u : Reading) (o : Option (Known Bounded)) → built bounded r.image r.state ≡ o → closed_by o r ≡ Ok u
-    → (s : Known Bounded) × (built bounded r.image r.state ≡ Some s) × (let v : Reading = record r { rows = r.rows ++ (r.at, s) ∷ []; state = no_state } in v ≡ u)
+closed_by-ok : (r u : TableSoFar) (o : Option (Known Bounded)) → built bounded r.image r.state ≡ o → closed_by o r ≡ Ok u
+    → (s : Known Bounded) × (built bounded r.image r.state ≡ Some s) × (let v : TableSoFar = record r { rows = r.rows ++ (r.at, s) ∷ []; state = no_state } in v ≡ u)
 closed_by-ok r u None e h = cc
 closed_by-ok r u (Some s) e h = (s, e, same_ok _ u h)
 
@@ -546,12 +546,12 @@ module _ (image : Image) (p : StateData Bounded) (s : Known Bounded) (noted : Fo
   unfolding built
   built_well h = registers_well (registers_of p.regs) refl h
 
-whole_of : (stage : Stage) (r u : Reading) → IsPart stage r → closed r ≡ Ok u → IsWhole stage r u
+whole_of : (stage : Stage) (r u : TableSoFar) → IsPart stage r → closed r ≡ Ok u → IsWhole stage r u
 unfolding closed
 whole_of stage r u part h =
     let c = closed_by-ok r u (built bounded r.image r.state) refl h in
     let b : (plain_of c.0 ≡ r.state) × HasImageBytes r.image c.0 = built-plain bounded r.image r.state c.0 c.1 in
-    subst (λ (x : Reading). IsWhole stage r x) c.2 (record {
+    subst (λ (x : TableSoFar). IsWhole stage r x) c.2 (record {
       text = rows_added (header_text ++ newline ++ k_line r.k ++ flat_map open_line r.marked) r.rows r.at c.0 r.state b.0 ∙ sym part.tells;
       image = refl;
       clear = (refl, refl, refl, refl);
@@ -563,12 +563,12 @@ whole_of stage r u part h =
 
 -- ---- all lines
 
-after_closed : (stage : Stage) (r t : Reading) (line word : List ℕ) (fs : List (List ℕ)) (made : Result Reading ℕ) → IsPart stage r → closed r ≡ made → fields line ≡ word ∷ fs
+after_closed : (stage : Stage) (r t : TableSoFar) (line word : List ℕ) (fs : List (List ℕ)) (made : Result TableSoFar ℕ) → IsPart stage r → closed r ≡ made → fields line ≡ word ∷ fs
     → after_state made word fs ≡ Ok t → Adds stage r t line
 after_closed stage r t line word fs (Err kind) part e parts h = cc
 after_closed stage r t line word fs (Ok u) part e parts h = after_whole stage r u t line word fs (whole_of stage r u part e) parts h
 
-module _ (stage : Stage) (r t : Reading) (line : List ℕ) (part : IsPart stage r) where
+module _ (stage : Stage) (r t : TableSoFar) (line : List ℕ) (part : IsPart stage r) where
   count_by : (word : List ℕ) (fs : List (List ℕ)) (block : Bool) → fields line ≡ word ∷ fs → bytes_eq word (codes "block") ≡ block
       → (if block then or_fault FIELD (block_fields fs) (block_step r) else after_state (closed r) word fs) ≡ Ok t → Adds stage r t line
   count_by word fs true parts d h =
@@ -617,7 +617,7 @@ module _ (stage : Stage) (r t : Reading) (line : List ℕ) (part : IsPart stage 
   state_by word fs true fact dirty block false second third parts a b c d p q s h = other_by word fs fact dirty block second third parts b c d q s h
   state_by word fs false fact dirty block first second third parts a b c d p q s h = other_by word fs fact dirty block second third parts b c d q s h
 
-state_told : (stage : Stage) (r t : Reading) (line : List ℕ) (fs : List (List ℕ)) → r.stage ≡ stage → IsPart stage r → fields line ≡ fs → state_step r fs ≡ Ok t → Adds stage r t line
+state_told : (stage : Stage) (r t : TableSoFar) (line : List ℕ) (fs : List (List ℕ)) → r.stage ≡ stage → IsPart stage r → fields line ≡ fs → state_step r fs ≡ Ok t → Adds stage r t line
 unfolding state_step
 state_told stage r t line [] here part parts h = cc
 state_told stage r t line (word ∷ fs) here part parts h =
@@ -630,7 +630,7 @@ state_told stage r t line (word ∷ fs) here part parts h =
     state_by stage r t line part word fs (bytes_eq word (codes "note")) (bytes_eq word (codes "fact")) (bytes_eq word (codes "dirty")) (bytes_eq word (codes "block"))
     (nat_lt (part_of stage) 1) (nat_le (part_of stage) 2) (nat_le (part_of stage) 3) parts refl refl refl refl refl refl refl (subst P here h)
 
-mark_or_next : (r t : Reading) (line word : List ℕ) (fs : List (List ℕ)) (mark : Bool) → r.stage ≡ stages.Marks → KeepsAt stages.Marks r → fields line ≡ word ∷ fs → bytes_eq word (codes "open") ≡ mark
+mark_or_next : (r t : TableSoFar) (line word : List ℕ) (fs : List (List ℕ)) (mark : Bool) → r.stage ≡ stages.Marks → KeepsAt stages.Marks r → fields line ≡ word ∷ fs → bytes_eq word (codes "open") ≡ mark
     → (if mark then or_fault FIELD (only_word fs) (mark_step r) else next_step r word fs) ≡ Ok t → Adds stages.Marks r t line
 mark_or_next r t line word fs true here kept parts e h =
     let f : (at : ℕ) × (only_word fs ≡ Some at) × (mark_step r at ≡ Ok t) = found_ok FIELD (only_word fs) (mark_step r) t h in
@@ -639,12 +639,12 @@ mark_or_next r t line word fs false here kept parts e h =
     let w : IsWhole stages.Marks r r = record { text = refl; image = refl; clear = kept.begun.1; k = kept.k; marked = kept.marked; rows = kept.rows; made = kept.made } in
     after_whole stages.Marks r r t line word fs w parts h
 
-marks_told : (r t : Reading) (line : List ℕ) (fs : List (List ℕ)) → r.stage ≡ stages.Marks → KeepsAt stages.Marks r → fields line ≡ fs → mark_or_next_step r fs ≡ Ok t → Adds stages.Marks r t line
+marks_told : (r t : TableSoFar) (line : List ℕ) (fs : List (List ℕ)) → r.stage ≡ stages.Marks → KeepsAt stages.Marks r → fields line ≡ fs → mark_or_next_step r fs ≡ Ok t → Adds stages.Marks r t line
 unfolding mark_or_next_step
 marks_told r t line [] here kept parts h = cc
 marks_told r t line (word ∷ fs) here kept parts h = mark_or_next r t line word fs (bytes_eq word (codes "open")) here kept parts refl h
 
-step_by : (stage : Stage) (r t : Reading) (line : List ℕ) → r.stage ≡ stage → KeepsAt stage r → step_after stage r line ≡ Ok t → Adds stage r t line
+step_by : (stage : Stage) (r t : TableSoFar) (line : List ℕ) → r.stage ≡ stage → KeepsAt stage r → step_after stage r line ≡ Ok t → Adds stage r t line
 step_by stages.Start r t line here kept h = header_by r t line kept h
 step_by stages.Header r t line here kept h = k_by r t line (fields line) kept refl h
 step_by stages.Marks r t line here kept h = marks_told r t line (fields line) here kept refl h
@@ -657,34 +657,34 @@ step_by stages.Dirty r t line here kept h = state_told stages.Dirty r t line (fi
 step_by stages.Blocks r t line here kept h = state_told stages.Blocks r t line (fields line) here (part-blocks r kept) refl h
 step_by stages.Ended r t line here kept h = cc
 
-abbrev pub said : Reading → List ℕ
+abbrev pub said : TableSoFar → List ℕ
 said r = said_at r.stage r
 
-pub record Told (s t : Reading) (added : List ℕ) : Type 0 where
+pub record Told (s t : TableSoFar) (added : List ℕ) : Type 0 where
   pub text : length (said s ++ added) < 2 ^ 64 → said t ≡ said s ++ added
   pub kept : KeepsAt t.stage t
   pub over : is_over t.stage ≡ true
   pub image : t.image ≡ s.image
 
-last_line : (n : ℕ) (s t : Reading) (rest : List ℕ) (ended none : Bool) → is_over s.stage ≡ ended → (length rest == 0) ≡ none → KeepsAt s.stage s
-    → ◌≡◌ {A = Result Reading LineFault} (if ended && none then Ok s else Err (end_fault n)) (Ok t) → Told s t rest
+last_line : (n : ℕ) (s t : TableSoFar) (rest : List ℕ) (ended none : Bool) → is_over s.stage ≡ ended → (length rest == 0) ≡ none → KeepsAt s.stage s
+    → ◌≡◌ {A = Result TableSoFar LineFault} (if ended && none then Ok s else Err (end_fault n)) (Ok t) → Told s t rest
 last_line n s t [] true true over e kept h =
     let same : s ≡ t = cc in
-    subst (λ (u : Reading). Told s u []) same (record { text = λ _. sym (append-nil (said s)); kept = kept; over = over; image = refl })
+    subst (λ (u : TableSoFar). Told s u []) same (record { text = λ _. sym (append-nil (said s)); kept = kept; over = over; image = refl })
 last_line n s t (b ∷ rest) ended true over e kept h = let none : length (b ∷ rest) ≡ 0 = grind (arith, nat_tests) in absurd (omega (arith, none))
 last_line n s t rest true false over e kept h = cc
 last_line n s t rest false none over e kept h = cc
 
 -- a line and the rest behind it
-joined : (s u : Reading) (line behind : List ℕ) → Adds s.stage s u line → length (said s ++ (line ++ (10 ∷ behind))) < 2 ^ 64 → said u ++ behind ≡ said s ++ (line ++ (10 ∷ behind))
+joined : (s u : TableSoFar) (line behind : List ℕ) → Adds s.stage s u line → length (said s ++ (line ++ (10 ∷ behind))) < 2 ^ 64 → said u ++ behind ≡ said s ++ (line ++ (10 ∷ behind))
 joined s u line behind one all =
     let size : length (said s ++ (line ++ (10 ∷ behind))) ≡ length (said s) + length (line ++ (10 ∷ behind)) = length-append (said s) (line ++ (10 ∷ behind)) in
     let own : length (said_at s.stage s) < 2 ^ 64 = omega arith in
     ap (λ l. l ++ behind) (one.text own) ∙ append_assoc (said s) (line ++ newline) behind ∙ ap (λ l. said s ++ l) (append_assoc line newline behind)
 
-whole_line : (n : ℕ) (s t : Reading) (line next : List ℕ) (others : List (List ℕ)) (ended : Bool) (made : Result Reading ℕ) → KeepsAt s.stage s → table_step s line ≡ made
-    → ((n : ℕ) (u : Reading) → KeepsAt u.stage u → read_from table_grammar n u (next ∷ others) ≡ Ok t → Told u t (join_with_byte 10 (next ∷ others)))
-    → ◌≡◌ {A = Result Reading LineFault} (if ended then Err (end_fault n) else after_line table_grammar n made (λ read. read_from table_grammar (n + 1) read (next ∷ others))) (Ok t)
+whole_line : (n : ℕ) (s t : TableSoFar) (line next : List ℕ) (others : List (List ℕ)) (ended : Bool) (made : Result TableSoFar ℕ) → KeepsAt s.stage s → table_step s line ≡ made
+    → ((n : ℕ) (u : TableSoFar) → KeepsAt u.stage u → read_from table_grammar n u (next ∷ others) ≡ Ok t → Told u t (join_with_byte 10 (next ∷ others)))
+    → ◌≡◌ {A = Result TableSoFar LineFault} (if ended then Err (end_fault n) else after_line table_grammar n made (λ read. read_from table_grammar (n + 1) read (next ∷ others))) (Ok t)
     → Told s t (join_with_byte 10 (line ∷ next ∷ others))
 unfolding table_step
 whole_line n s t line next others true made kept is later h = cc
@@ -698,7 +698,7 @@ whole_line n s t line next others false (Ok u) kept is later h =
     in
     record { text = text; kept = rest.kept; over = rest.over; image = rest.image ∙ one.image }
 
-all_lines : (ls : List (List ℕ)) (n : ℕ) (s t : Reading) → KeepsAt s.stage s → read_from table_grammar n s ls ≡ Ok t → Told s t (join_with_byte 10 ls)
+all_lines : (ls : List (List ℕ)) (n : ℕ) (s t : TableSoFar) → KeepsAt s.stage s → read_from table_grammar n s ls ≡ Ok t → Told s t (join_with_byte 10 ls)
 unfolding read_from
 all_lines [] n s t kept h = cc
 all_lines (rest ∷ []) n s t kept h = last_line n s t rest (is_over s.stage) (length rest == 0) refl refl kept h
@@ -707,7 +707,7 @@ all_lines (line ∷ next ∷ others) n s t kept h =
 
 -- ---- whole texts
 
-said_over : (stage : Stage) (r : Reading) → is_over stage ≡ true → said_at stage r ≡ front r ++ end_line (length r.rows)
+said_over : (stage : Stage) (r : TableSoFar) → is_over stage ≡ true → said_at stage r ≡ front r ++ end_line (length r.rows)
 said_over stages.Ended r e = refl
 said_over stages.Start r e = cc
 said_over stages.Header r e = cc
@@ -739,14 +739,14 @@ keeps_nothing image = record { begun = (refl, refl, (refl, refl, refl, refl)); k
 at_most : (a b : ℕ) → nat_le a b ≡ true → a ≤ b
 at_most a b e = grind (arith, nat_tests)
 
-abbrev table_of : Reading → Table Bounded
+abbrev table_of : TableSoFar → Table Bounded
 table_of r = record { k = r.k; rows = r.rows; marked = r.marked }
 
 -- a table of the image, and a text of fewer bytes than 2^64 is that table's
 abbrev Tells : Image → List ℕ → Table Bounded → Type 0
 Tells image text t = IsTableOf image t × (length text < 2 ^ 64 → table_text t ≡ text)
 
-table_by : (image : Image) (text : List ℕ) (r : Reading) → Told (nothing image) r (join_with_byte 10 (lines text)) → Tells image text (table_of r)
+table_by : (image : Image) (text : List ℕ) (r : TableSoFar) → Told (nothing image) r (join_with_byte 10 (lines text)) → Tells image text (table_of r)
 unfolding lines table_text
 table_by image text r is =
     let bounds = and_parts (nat_le 1 r.k) (nat_le r.k 1024) (k_over r.stage r.k is.over is.kept.k) in
@@ -756,7 +756,7 @@ table_by image text r is =
       λ short. sym (said_over r.stage r is.over) ∙ is.text (subst (λ l. length l < 2 ^ 64) (sym back) short) ∙ back,
     )
 
-read_by : (image : Image) (text : List ℕ) (t : Table Bounded) (read : Result Reading LineFault) → read_text table_grammar (nothing image) text ≡ read → told read ≡ Ok t → Tells image text t
+read_by : (image : Image) (text : List ℕ) (t : Table Bounded) (read : Result TableSoFar LineFault) → read_text table_grammar (nothing image) text ≡ read → told read ≡ Ok t → Tells image text t
 read_by image text t (Err f) is h = cc
 read_by image text t (Ok r) is h =
     let same : table_of r ≡ t = cc in

@@ -27,7 +27,7 @@ use Rattle.table_check.specs.Text.{header_text}
 
 -- ---- what was read so far
 
-pub record Reading : Type 0 where
+pub record TableSoFar : Type 0 where
   pub image : Image
   -- which line the last one was
   pub stage : Stage
@@ -42,51 +42,51 @@ pub record Reading : Type 0 where
 abbrev pub no_state : StateData Bounded
 no_state = record { regs = []; flags = []; note = None; facts = []; dirty = []; blocks = [] }
 
-abbrev pub nothing : Image → Reading
+abbrev pub nothing : Image → TableSoFar
 nothing image = record { image = image; stage = stages.Start; k = 0; marked = []; rows = []; at = 0; state = no_state }
 
 -- ---- before the rows
 
-abbrev pub header_step : Reading → List ℕ → Result Reading ℕ
+abbrev pub header_step : TableSoFar → List ℕ → Result TableSoFar ℕ
 header_step r line = demand (bytes_eq line header_text) HEADER (Ok (record r { stage = stages.Header }))
 
-abbrev pub k_step : Reading → List (List ℕ) → Result Reading ℕ
+abbrev pub k_step : TableSoFar → List (List ℕ) → Result TableSoFar ℕ
 k_step r [] = Err WORD
 k_step r (word ∷ fs) =
     if bytes_eq word (codes "k") then or_fault FIELD (k_fields fs) (λ k. Ok (record r { stage = stages.Marks; k = k })) else Err WORD
 
-unfoldable pub mark_step : Reading → ℕ → Result Reading ℕ
+unfoldable pub mark_step : TableSoFar → ℕ → Result TableSoFar ℕ
 mark_step r at = demand (follows_last nat_lt r.marked at) ORDER (Ok (record r { marked = r.marked ++ at ∷ [] }))
 
 -- ---- a row, its registers and its flags
 
-abbrev pub row_step : Reading → List (List ℕ) → Result Reading ℕ
+abbrev pub row_step : TableSoFar → List (List ℕ) → Result TableSoFar ℕ
 row_step r fs = or_fault FIELD (only_word fs) (λ at. Ok (record r { stage = stages.Row; at = at }))
 
-abbrev pub with_regs : List Bounded → Reading → Reading
+abbrev pub with_regs : List Bounded → TableSoFar → TableSoFar
 with_regs regs r = record r { stage = stages.Regs; state = record (r.state) { regs = regs } }
 
-abbrev pub regs_step : Reading → List (List ℕ) → Result Reading ℕ
+abbrev pub regs_step : TableSoFar → List (List ℕ) → Result TableSoFar ℕ
 regs_step r [] = Err WORD
 regs_step r (word ∷ fs) = if bytes_eq word (codes "regs") then or_fault FIELD (regs_fields fs) (λ regs. Ok (with_regs regs r)) else Err WORD
 
-abbrev pub with_flags : List Truth → Reading → Reading
+abbrev pub with_flags : List Truth → TableSoFar → TableSoFar
 with_flags flags r = record r { stage = stages.Flags; state = record (r.state) { flags = flags } }
 
-abbrev pub flags_step : Reading → List (List ℕ) → Result Reading ℕ
+abbrev pub flags_step : TableSoFar → List (List ℕ) → Result TableSoFar ℕ
 flags_step r [] = Err WORD
 flags_step r (word ∷ fs) = if bytes_eq word (codes "flags") then or_fault FIELD (flags_fields fs) (λ flags. Ok (with_flags flags r)) else Err WORD
 
 -- ---- the other lines of a state
 
-unfoldable pub note_step : Reading → Note → Result Reading ℕ
+unfoldable pub note_step : TableSoFar → Note → Result TableSoFar ℕ
 note_step r note = demand (is_well_note note) CONTENT (Ok (record r { stage = stages.Note; state = record (r.state) { note = Some note } }))
 
 abbrev pub is_fact_above : Fact Bounded → Fact Bounded → Bool
 is_fact_above f g = spot_before (spot_at f.area f.low) (spot_at g.area g.low)
 
 -- a fact stands above the last one; it is sound, of bytes of the image where it is one of the image, and meets no other
-unfoldable pub fact_step : Reading → Fact Bounded → Result Reading ℕ
+unfoldable pub fact_step : TableSoFar → Fact Bounded → Result TableSoFar ℕ
 fact_step r f =
     demand (follows_last is_fact_above r.state.facts f) ORDER
     (demand (is_sound_fact bounded f && (is_fact_of r.image f && follows_last fact_before r.state.facts f)) CONTENT
@@ -96,13 +96,13 @@ abbrev pub is_dirty_above : Dirty → Dirty → Bool
 is_dirty_above f g = spot_before (spot_at f.area f.low) (spot_at g.area g.low)
 
 -- the same of a dirty range, which touches no other either
-unfoldable pub dirty_step : Reading → Dirty → Result Reading ℕ
+unfoldable pub dirty_step : TableSoFar → Dirty → Result TableSoFar ℕ
 dirty_step r d =
     demand (follows_last is_dirty_above r.state.dirty d) ORDER
     (demand (is_sound_dirty d && (is_dirty_of r.image d && follows_last dirty_before r.state.dirty d)) CONTENT
     (Ok (record r { stage = stages.Dirty; state = record (r.state) { dirty = r.state.dirty ++ d ∷ [] } })))
 
-unfoldable pub block_step : Reading → Counted → Result Reading ℕ
+unfoldable pub block_step : TableSoFar → Counted → Result TableSoFar ℕ
 block_step r c =
     demand (follows_last count_before r.state.blocks c) ORDER (demand (is_block c) CONTENT
     (Ok (record r { stage = stages.Blocks; state = record (r.state) { blocks = r.state.blocks ++ c ∷ [] } })))
@@ -110,32 +110,32 @@ block_step r c =
 -- ---- the end of a state
 
 -- the state is whole: it has to be one of the image, with each region counted that it names
-abbrev pub closed_by : Option (Known Bounded) → Reading → Result Reading ℕ
+abbrev pub closed_by : Option (Known Bounded) → TableSoFar → Result TableSoFar ℕ
 closed_by None r = Err CONTENT
 closed_by (Some s) r = Ok (record r { rows = r.rows ++ (r.at, s) ∷ []; state = no_state })
 
-unfoldable pub closed : Reading → Result Reading ℕ
+unfoldable pub closed : TableSoFar → Result TableSoFar ℕ
 closed r = closed_by (built bounded r.image r.state) r
 
 -- ---- the `end` line
 
-unfoldable pub count_fields : Reading → List (List ℕ) → Option Bool
+unfoldable pub count_fields : TableSoFar → List (List ℕ) → Option Bool
 count_fields r fs = then_field (decimal_is (length r.rows)) fs (λ same fs. no_more same fs)
 
-unfoldable pub end_step : Reading → List (List ℕ) → Result Reading ℕ
+unfoldable pub end_step : TableSoFar → List (List ℕ) → Result TableSoFar ℕ
 end_step r fs = or_fault FIELD (count_fields r fs) (λ same. demand same COUNT (Ok (record r { stage = stages.Ended })))
 
 -- ---- all lines
 
 -- a row or the end
-unfoldable pub next_step : Reading → List ℕ → List (List ℕ) → Result Reading ℕ
+unfoldable pub next_step : TableSoFar → List ℕ → List (List ℕ) → Result TableSoFar ℕ
 next_step r word fs =
     if bytes_eq word (codes "row") then row_step r fs
     else if bytes_eq word (codes "end") then end_step r fs
     else Err WORD
 
 -- a mark, or what stands behind the marks
-unfoldable pub mark_or_next_step : Reading → List (List ℕ) → Result Reading ℕ
+unfoldable pub mark_or_next_step : TableSoFar → List (List ℕ) → Result TableSoFar ℕ
 mark_or_next_step r [] = Err WORD
 mark_or_next_step r (word ∷ fs) =
     if bytes_eq word (codes "open") then or_fault FIELD (only_word fs) (mark_step r) else next_step r word fs
@@ -149,12 +149,12 @@ part_of stages.Blocks = 4
 part_of _ = 0
 
 -- the state that ends before this line, and the line behind it
-abbrev pub after_state : Result Reading ℕ → List ℕ → List (List ℕ) → Result Reading ℕ
+abbrev pub after_state : Result TableSoFar ℕ → List ℕ → List (List ℕ) → Result TableSoFar ℕ
 after_state (Ok r) word fs = next_step r word fs
 after_state (Err kind) word fs = Err kind
 
 -- a line that goes on with a state, or the first one that cannot
-unfoldable pub state_step : Reading → List (List ℕ) → Result Reading ℕ
+unfoldable pub state_step : TableSoFar → List (List ℕ) → Result TableSoFar ℕ
 state_step r [] = Err WORD
 state_step r (word ∷ fs) =
     if bytes_eq word (codes "note") && nat_lt (part_of r.stage) 1 then or_fault FIELD (note_fields fs) (note_step r)
@@ -164,7 +164,7 @@ state_step r (word ∷ fs) =
     else after_state (closed r) word fs
 
 -- the line that follows one of this kind
-abbrev pub step_after : Stage → Reading → List ℕ → Result Reading ℕ
+abbrev pub step_after : Stage → TableSoFar → List ℕ → Result TableSoFar ℕ
 step_after stages.Start r line = header_step r line
 step_after stages.Header r line = k_step r (fields line)
 step_after stages.Marks r line = mark_or_next_step r (fields line)
@@ -177,19 +177,19 @@ step_after stages.Dirty r line = state_step r (fields line)
 step_after stages.Blocks r line = state_step r (fields line)
 step_after stages.Ended r line = Err END
 
-unfoldable pub table_step : Reading → List ℕ → Result Reading ℕ
+unfoldable pub table_step : TableSoFar → List ℕ → Result TableSoFar ℕ
 table_step r line = step_after r.stage r line
 
 abbrev pub is_over : Stage → Bool
 is_over stages.Ended = true
 is_over _ = false
 
-abbrev pub table_grammar : Grammar Reading
+abbrev pub table_grammar : Grammar TableSoFar
 table_grammar = record { step = table_step; is_ended = λ r. is_over r.stage }
 
 -- ---- whole texts
 
-abbrev pub told : Result Reading LineFault → Result (Table Bounded) LineFault
+abbrev pub told : Result TableSoFar LineFault → Result (Table Bounded) LineFault
 told (Ok r) = Ok (record { k = r.k; rows = r.rows; marked = r.marked })
 told (Err f) = Err f
 

@@ -44,9 +44,9 @@ struct TableReader<'a> {
 }
 
 impl<'a> Model for TableReader<'a> {
-    ghost use Rattle.table_check.specs.Reading.{Reading};
+    ghost use Rattle.table_check.specs.Reading.{TableSoFar};
 
-    ghost Value = { Reading };
+    ghost Value = { TableSoFar };
 
     ghost view = { λ r. record {
       image = r.image.now;

@@ -14,7 +14,7 @@ use Rattle.partitioned_memory.specs.declared.area.Area.{Area}
 use Rattle.partitioned_memory.specs.declared.area.Area.TheVariants.{Image as Loaded, In}
 use Rattle.partitioned_memory.specs.declared.fact.Dirty.{Dirty}
 use Rattle.partitioned_memory.specs.Areas.{is_zeroed}
-use Rattle.partitioned_memory.specs.Held.{first_byte, found, is_dirty, joined, known_byte, known_half, known_number, loaded_byte, value_read}
+use Rattle.partitioned_memory.specs.Held.{first_byte, found, is_dirty, low_with_high, known_byte, known_half, known_number, loaded_byte, value_read}
 use Rattle.x86_syntax.specs.declared.instr.Seg.{Seg}
 use Rattle.x86_syntax.specs.declared.instr.Seg.TheVariants.{Plain, Fs, Gs}
 use Rattle.x86_semantics.proofs.Storing.{byte-fits}
@@ -60,22 +60,22 @@ by_test P false h k = k refl
 product_below : (n a b : ℕ) → a < b → n * a + n ≤ n * b
 product_below n a b h = let k : n * (a + 1) ≤ n * b = mul-le-mul_left n (let e : a + 1 ≤ b = omega arith in e) in omega (arith, k)
 
-joined_fits : (n : ℕ) (a b : Option ℕ) (x i j : ℕ) → ((m : ℕ) → a ≡ Some m → m < i) → ((m : ℕ) → b ≡ Some m → m < j) → i ≡ n → joined n a b ≡ Some x → x < n * j
-joined_fits n (Some low) (Some high) x i j h k e is =
+low_with_high_fits : (n : ℕ) (a b : Option ℕ) (x i j : ℕ) → ((m : ℕ) → a ≡ Some m → m < i) → ((m : ℕ) → b ≡ Some m → m < j) → i ≡ n → low_with_high n a b ≡ Some x → x < n * j
+low_with_high_fits n (Some low) (Some high) x i j h k e is =
     let same : low + n * high ≡ x = cc in
     let small : low < n = omega (arith, h low refl) in
     let times : n * high + n ≤ n * j = product_below n high j (k high refl) in
     omega arith
-joined_fits n (Some low) None x i j h k e is = cc
-joined_fits n None b x i j h k e is = cc
+low_with_high_fits n (Some low) None x i j h k e is = cc
+low_with_high_fits n None b x i j h k e is = cc
 
 half_fits : (look : ℤ → Option ℕ) (o : ℤ) (x : ℕ) → ((o : ℤ) (m : ℕ) → look o ≡ Some m → m < 256) → known_half look o ≡ Some x → x < 65536
-half_fits look o x small e = joined_fits 256 (look o) (look (o +ℤ pos 1)) x 256 256 (small o) (small (o +ℤ pos 1)) refl e
+half_fits look o x small e = low_with_high_fits 256 (look o) (look (o +ℤ pos 1)) x 256 256 (small o) (small (o +ℤ pos 1)) refl e
 
 number_fits : (look : ℤ → Option ℕ) (o : ℤ) (w : Width) (x : ℕ) → ((o : ℤ) (m : ℕ) → look o ≡ Some m → m < 256) → known_number look o w ≡ Some x → x < 2 ^ bits_of w
 number_fits look o B8 x small e = small o x e
 number_fits look o B16 x small e = half_fits look o x small e
-number_fits look o B32 x small e = joined_fits 65536 (known_half look o) (known_half look (o +ℤ pos 2)) x 65536 65536 (λ m k. half_fits look o m small k) (λ m k. half_fits look (o +ℤ pos 2) m small k) refl e
+number_fits look o B32 x small e = low_with_high_fits 65536 (known_half look o) (known_half look (o +ℤ pos 2)) x 65536 65536 (λ m k. half_fits look o m small k) (λ m k. half_fits look (o +ℤ pos 2) m small k) refl e
 
 loaded_is_small : (ranges : List Range) (unset : List Span) (o : ℤ) (m : ℕ) → All HasBytes ranges → loaded_byte ranges unset o ≡ Some m → m < 256
 loaded_is_small ranges unset (pos a) m bytes e =

@@ -40,7 +40,7 @@ use Rattle.abstract_state.specs.State.{Known, with_flags}
 use Rattle.transfer_functions.specs.Arithmetic.{cancels, carry, combine, combined, compare, compared_with, flagged, is_same_register, keeps, note_of, note_with, noted, noted_place, reading_both}
 use Rattle.transfer_functions.specs.Bits.{change_flag, flags_set, has_status, load_status, status_value, store_status}
 use Rattle.transfer_functions.specs.Products.{divide, divide_by, divide_halves, divide_known, divided, exact, multiply, multiply_long, on_quotients, with_long}
-use Rattle.transfer_functions.specs.Shifts.{double_shift, double_shift_by, double_shifted, double_truths, is_no_shift, joined, shift, shifted, unshifted}
+use Rattle.transfer_functions.specs.Shifts.{double_shift, double_shift_by, double_shifted, double_truths, is_no_shift, or_of_shifts, shift, shifted, unshifted}
 use Rattle.transfer_functions.specs.Values.{address_value, after_pair, on_state, operand_value, pair_of, reading, value_of_truth, writing}
 use Rattle.transfer_functions.proofs.Holds.{eval-holds}
 use Rattle.transfer_functions.proofs.Keeping.{IsWellPath, StoresKeep, KeepsWell, ended_keeps, lands_keeps, noted_keeps, part_holds, reading_keeps, with_flags_keeps, with_part_keeps, writing_keeps}
@@ -169,15 +169,15 @@ module _ {D : Type 0} (d : Values D) (l : IsLawful d) (image : Image) (blocks : 
         | false ↦ place_keeps w to _ q _ place (shifted_holds op w a (d.number_of v) m) h (λ r k. flagged_keeps rule w a v _ next r k)
       ]))
 
-  joined_holds : (op other : Op) (w : Width) (a b : D) (n : ℕ) → n < 2 ^ bits_of w → M w a → M w b → M w (joined d image.align op other w a b n)
-  joined_holds op other w a b n less m k =
+  shifts_hold : (op other : Op) (w : Width) (a b : D) (n : ℕ) → n < 2 ^ bits_of w → M w a → M w b → M w (or_of_shifts d image.align op other w a b n)
+  shifts_hold op other w a b n less m k =
       eval_holds Or w _ _ (eval_holds op w a _ m (number-holds d l blocks w n less)) (eval_holds other w b _ k (number-holds d l blocks w (bits_of w - n) (rest_fits w n)))
 
   double_holds : (op other : Op) (w : Width) (a b : D) (o : Option ℕ) → M w a → M w b → M w (double_shifted d image.align op other w a b o)
   double_holds op other w a b None m k = any-holds d l blocks w
   double_holds op other w a b (Some n) m k =
-      elim (nat_lt (n % 32) (bits_of w)) as (λ z. M w (cond z (joined d image.align op other w a b (n % 32)) d.any)) [
-        | true ↦ joined_holds op other w a b (n % 32) (count_fits w n) m k
+      elim (nat_lt (n % 32) (bits_of w)) as (λ z. M w (cond z (or_of_shifts d image.align op other w a b (n % 32)) d.any)) [
+        | true ↦ shifts_hold op other w a b (n % 32) (count_fits w n) m k
         | false ↦ any-holds d l blocks w
       ]
 

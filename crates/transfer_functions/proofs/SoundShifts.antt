@@ -25,7 +25,7 @@ use Rattle.x86_syntax.specs.declared.instr.Operand.TheVariants.{Register, Number
 use Rattle.x86_semantics.specs.declared.flag_rule.FlagRule.{FlagRule}
 use Rattle.x86_semantics.specs.Operands.{Ended, Next, at_address, with_flags as with_flags_of, writing as writing_of}
 use Rattle.x86_semantics.specs.Registers.{byte_part, put_byte_part, part as part_of, with_part as with_part_of, register as register_of, with_register as with_register_of}
-use Rattle.x86_semantics.specs.Shifts.{double_flags, double_result, double_shift as double_shift_of, double_shift_by as double_shift_by_of, joined as joined_of, shift as shift_of, shift_by as shift_by_of, shifted_flags}
+use Rattle.x86_semantics.specs.Shifts.{double_flags, double_result, double_shift as double_shift_of, double_shift_by as double_shift_by_of, or_of_shifts as shifts_of, shift as shift_of, shift_by as shift_by_of, shifted_flags}
 use Rattle.x86_semantics.specs.Widths.{has_place, is_count, is_place, is_value, is_width, width_of}
 use Rattle.abstract_state.specs.Expanding.{Expanded, Path, lands}
 use Rattle.abstract_state.specs.Flags.{FlagsStand}
@@ -33,7 +33,7 @@ use Rattle.abstract_state.specs.State.{with_flags}
 use Rattle.abstract_state.proofs.Bridge.{any_known, number_known}
 use Rattle.transfer_functions.specs.Arithmetic.{flagged}
 use Rattle.transfer_functions.specs.Flags.{ruled_truths}
-use Rattle.transfer_functions.specs.Shifts.{double_shift, double_shift_by, double_shifted, double_truths, is_no_shift, joined, shift, shift_by, shifted, unshifted}
+use Rattle.transfer_functions.specs.Shifts.{double_shift, double_shift_by, double_shifted, double_truths, is_no_shift, or_of_shifts, shift, shift_by, shifted, unshifted}
 use Rattle.transfer_functions.specs.Values.{on_state, writing}
 use Rattle.transfer_functions.proofs.FlagsSound.{counted_stand, double_stand, is_counted, is_double}
 use Rattle.transfer_functions.proofs.Steps.{S, H, E, IsRead, eval_stands, lands_ends, part_stands, reading_ends, register_stands, with_flags_holds, writing_ends}
@@ -102,13 +102,13 @@ or_none B8 x less = or_zero_r (cut B8 x) ∙ cut_fit B8 x less
 or_none B16 x less = or_zero_r (cut B16 x) ∙ cut_fit B16 x less
 or_none B32 x less = or_zero_r (cut B32 x) ∙ cut_fit B32 x less
 
-none_joined : (op other : Op) (w : Width) (x y : ℕ) → IsJoining op other → x < 2 ^ bits_of w → joined_of op other w x y 0 ≡ x
-none_joined op other w x y own less = elim own [
+none_shifted : (op other : Op) (w : Width) (x y : ℕ) → IsJoining op other → x < 2 ^ bits_of w → shifts_of op other w x y 0 ≡ x
+none_shifted op other w x y own less = elim own [
   | inl e ↦
-      ap (λ o. joined_of o other w x y 0) e.0 ∙ ap (λ o. joined_of Shl o w x y 0) e.1
+      ap (λ o. shifts_of o other w x y 0) e.0 ∙ ap (λ o. shifts_of Shl o w x y 0) e.1
       ∙ ap (λ k. apply_op Or w (apply_op Shl w x 0) k) (gone_right w y) ∙ ap (λ k. apply_op Or w k 0) (unmoved Shl w x refl less) ∙ or_none w x less
   | inr e ↦
-      ap (λ o. joined_of o other w x y 0) e.0 ∙ ap (λ o. joined_of Shr o w x y 0) e.1
+      ap (λ o. shifts_of o other w x y 0) e.0 ∙ ap (λ o. shifts_of Shr o w x y 0) e.1
       ∙ ap (λ k. apply_op Or w (apply_op Shr w x 0) k) (gone_left w y) ∙ ap (λ k. apply_op Or w k 0) (unmoved Shr w x refl less) ∙ or_none w x less
 ]
 
@@ -119,7 +119,7 @@ some_width B32 = refl
 
 -- SHLD and SHRD by 0 give their operand
 none_doubled : (op other : Op) (w : Width) (x y : ℕ) (choice : Choice) → IsJoining op other → x < 2 ^ bits_of w → double_result op other w x y 0 choice ≡ x
-none_doubled op other w x y choice own less = ap (λ b. cond b (joined_of op other w x y 0) (cut w choice.eax)) (some_width w) ∙ none_joined op other w x y own less
+none_doubled op other w x y choice own less = ap (λ b. cond b (shifts_of op other w x y 0) (cut w choice.eax)) (some_width w) ∙ none_shifted op other w x y own less
 
 pub rest_fits : (w : Width) (n : ℕ) → bits_of w - n < 2 ^ bits_of w
 rest_fits B8 n = omega arith
@@ -257,15 +257,15 @@ module _ {D : Type 0} (d : Values D) (l : IsLawful d) (image : Image) (p : Place
 
   -- ---- SHLD and SHRD
 
-  joined_stands : (op other : Op) (w : Width) (a b : D) (x y n : ℕ) (q : Path D) (m : MachineState) → n < 2 ^ bits_of w → S d l image p blocks w a x → S d l image p blocks w b y → H d l image p blocks q m
-      → S d l image p blocks w (joined d image.align op other w a b n) (joined_of op other w x y n)
-  joined_stands op other w a b x y n q m less s t h =
+  shifts_stand : (op other : Op) (w : Width) (a b : D) (x y n : ℕ) (q : Path D) (m : MachineState) → n < 2 ^ bits_of w → S d l image p blocks w a x → S d l image p blocks w b y → H d l image p blocks q m
+      → S d l image p blocks w (or_of_shifts d image.align op other w a b n) (shifts_of op other w x y n)
+  shifts_stand op other w a b x y n q m less s t h =
       let rest = bits_of w - n in
       let moved = eval_stands d l image p blocks op w a (d.number n) x n q m h s (number_known d l image p blocks w n q m h less) in
       let behind = eval_stands d l image p blocks other w b (d.number rest) y rest q m h t (number_known d l image p blocks w rest q m h (rest_fits w n)) in
       eval_stands d l image p blocks Or w _ _ _ _ q m h moved behind
 
-  result_fits : (op other : Op) (w : Width) (x y c : ℕ) (choice : Choice) (below : Bool) → cond below (joined_of op other w x y c) (cut w choice.eax) < 2 ^ bits_of w
+  result_fits : (op other : Op) (w : Width) (x y c : ℕ) (choice : Choice) (below : Bool) → cond below (shifts_of op other w x y c) (cut w choice.eax) < 2 ^ bits_of w
   result_fits op other w x y c choice true = apply-lt Or w _ _
   result_fits op other w x y c choice false = cut-lt w choice.eax
 
@@ -276,8 +276,8 @@ module _ {D : Type 0} (d : Values D) (l : IsLawful d) (image : Image) (p : Place
   double_stands op other w a b x y (Some n) v choice q m tells s t h =
       let P : ℕ → Type 0 = λ k. S d l image p blocks w (double_shifted d image.align op other w a b (Some n)) (double_result op other w x y (k % 32) choice) in
       subst P (sym (tells n refl))
-      (elim (nat_lt (n % 32) (bits_of w)) as (λ z. S d l image p blocks w (cond z (joined d image.align op other w a b (n % 32)) d.any) (cond z (joined_of op other w x y (n % 32)) (cut w choice.eax))) [
-        | true ↦ joined_stands op other w a b x y (n % 32) q m (count_fits w n) s t h
+      (elim (nat_lt (n % 32) (bits_of w)) as (λ z. S d l image p blocks w (cond z (or_of_shifts d image.align op other w a b (n % 32)) d.any) (cond z (shifts_of op other w x y (n % 32)) (cut w choice.eax))) [
+        | true ↦ shifts_stand op other w a b x y (n % 32) q m (count_fits w n) s t h
         | false ↦ any_known d l image p blocks w (cut w choice.eax) q m h (cut-lt w choice.eax)
       ])
 

@@ -34,13 +34,13 @@ module _ {D : Type 0} (d : Values D) (align : ℕ) where
   shifted op w a (Some n) = d.eval op w a (d.number (n % 32)) align
 
   -- the bits of a moved by n, and behind them those of b
-  abbrev pub joined : Op → Op → Width → D → D → ℕ → D
-  joined op other w a b n = d.eval Or w (d.eval op w a (d.number n) align) (d.eval other w b (d.number (bits_of w - n)) align) align
+  abbrev pub or_of_shifts : Op → Op → Width → D → D → ℕ → D
+  or_of_shifts op other w a b n = d.eval Or w (d.eval op w a (d.number n) align) (d.eval other w b (d.number (bits_of w - n)) align) align
 
   -- by a known count below the width; any by another
   abbrev pub double_shifted : Op → Op → Width → D → D → Option ℕ → D
   double_shifted op other w a b None = d.any
-  double_shifted op other w a b (Some n) = if nat_lt (n % 32) (bits_of w) then joined op other w a b (n % 32) else d.any
+  double_shifted op other w a b (Some n) = if nat_lt (n % 32) (bits_of w) then or_of_shifts op other w a b (n % 32) else d.any
 
   -- and no flag is known
   abbrev pub double_truths : FlagRule → Width → D → D → D → Truths → Truths

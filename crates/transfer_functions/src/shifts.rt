@@ -6,7 +6,7 @@ ghost use Rattle.domain_laws.specs.Made.{values_of};
 ghost use Rattle.partitioned_memory.specs.Well.{MayHold};
 ghost use Rattle.x86_semantics.specs.Operands.{next_address};
 ghost use Rattle.x86_semantics.specs.Widths.{has_own_widths, has_place, width_of};
-ghost use Rattle.transfer_functions.specs.Shifts.{double_shift, double_shift_by, double_shifted, double_truths, is_below, is_no_shift, joined, shift, shift_by, shifted, unshifted};
+ghost use Rattle.transfer_functions.specs.Shifts.{double_shift, double_shift_by, double_shifted, double_truths, is_below, is_no_shift, or_of_shifts, shift, shift_by, shifted, unshifted};
 
 use crate::arithmetic::Shape;
 use crate::flags::flags_after;
@@ -53,9 +53,9 @@ fn is_below(w: Width, count: Option<u32>) -> bool
 }
 
 // The bits of one value moved by `n`, and behind them those of another.
-fn joined<D: Domain>(ops: (Op, Op), w: Width, both: (D, D), n: u32, align: u32) -> D
+fn or_of_shifts<D: Domain>(ops: (Op, Op), w: Width, both: (D, D), n: u32, align: u32) -> D
     requires { n < bits_of w }
-    ensures value { result ≡ joined (values_of D.Domain.own D.eq) align ops.0 ops.1 w both.0 both.1 n }
+    ensures value { result ≡ or_of_shifts (values_of D.Domain.own D.eq) align ops.0 ops.1 w both.0 both.1 n }
     ensures holds { (blocks : List Counted) (u v : Width) → MayHold (values_of D.Domain.own D.eq) blocks u both.0 → MayHold (values_of D.Domain.own D.eq) blocks v both.1 → MayHold (values_of D.Domain.own D.eq) blocks w result }
 {
     let places = number(n);
@@ -80,7 +80,7 @@ fn double_shifted<D: Domain>(
         None => anything(),
         Some(n) => {
             if n % 32 < w.bits() {
-                joined(ops, w, both, n % 32, align)
+                or_of_shifts(ops, w, both, n % 32, align)
             } else {
                 anything()
             }

@@ -17,7 +17,7 @@ use Rattle.x86_semantics.specs.declared.flag_rule.FlagRule.{FlagRule}
 use Rattle.x86_semantics.specs.FlagRules.{flags_after, freed, carry_flag, overflow_flag, status_flags}
 use Rattle.x86_semantics.specs.Registers.{part}
 use Rattle.x86_semantics.specs.Operands.{Ended, Next, at_address, with_flags}
-use Rattle.x86_semantics.specs.Shifts.{freed_if, flags_by_count, shift, joined, double_result, double_shift}
+use Rattle.x86_semantics.specs.Shifts.{freed_if, flags_by_count, shift, or_of_shifts, double_result, double_shift}
 use Rattle.statement_lang.specs.Run.{run, run_from}
 use Rattle.x86_lifter.specs.Pieces.{places}
 use Rattle.x86_lifter.specs.Lists.{shift_ending, shifting, double_shifting}
@@ -100,10 +100,10 @@ rest-of B16 n less = omega arith
 rest-of B32 n less = omega arith
 
 -- the result by the test of the count
-joined-or-free : (op other : Op) (w : Width) (a b n : ℕ) (c : Choice) (t : Bool) → nat_lt n (bits_of w) ≡ t
-    → cond (not t) (cut w c.eax) (apply_op Or w (apply_op op w a n) (apply_op other w b (apply_op Sub B32 (bits_of w) n))) ≡ cond t (joined op other w a b n) (cut w c.eax)
-joined-or-free op other w a b n c true e = ap (λ k. apply_op Or w (apply_op op w a n) (apply_op other w b k)) (rest-of w n (ltb-true n (bits_of w) e))
-joined-or-free op other w a b n c false e = refl
+shifts-or-free : (op other : Op) (w : Width) (a b n : ℕ) (c : Choice) (t : Bool) → nat_lt n (bits_of w) ≡ t
+    → cond (not t) (cut w c.eax) (apply_op Or w (apply_op op w a n) (apply_op other w b (apply_op Sub B32 (bits_of w) n))) ≡ cond t (or_of_shifts op other w a b n) (cut w c.eax)
+shifts-or-free op other w a b n c true e = ap (λ k. apply_op Or w (apply_op op w a n) (apply_op other w b k)) (rest-of w n (ltb-true n (bits_of w) e))
+shifts-or-free op other w a b n c false e = refl
 
 pub double-shifted : (op other : Op) (rule : FlagRule) (w : Width) (to : Operand) (r : ℕ) (count : Operand) (next : ℕ) (c : Choice) (m : MachineState)
     → run (places to count ++ double_shifting op other rule w to r count next) c m ≡ double_shift op other rule w to r count next c m
@@ -121,6 +121,6 @@ double-shifted op other rule w to r count next c m =
     ∙ ap (λ x. run_from (drop 4 list) 0 c m (temps (place m to) (place m count) a x 0 b 0)) (masked v)
     ∙ inside (λ x. run_from (drop 11 list) 0 c m (temps (place m to) (place m count) a n x less rest)) (less == 0) (cut w c.eax) both
     ∙ ap (λ x. run_from (drop 11 list) 0 c m (temps (place m to) (place m count) a n x less rest))
-    (ap (λ t. cond t (cut w c.eax) both) (below-test v w) ∙ joined-or-free op other w a b n c (nat_lt n (bits_of w)) refl)
+    (ap (λ t. cond t (cut w c.eax) both) (below-test v w) ∙ shifts-or-free op other w a b n c (nat_lt n (bits_of w)) refl)
     ∙ kept-first to 4 (drop 12 list) c m (place m count) a n result less rest
     ∙ writing-same m to result _ _ (λ k. flags-ended rule w status_flags next c k (place m to) (place m count) a v result less rest)))

@@ -39,12 +39,12 @@ shift op rule w to count next choice m =
 -- ---- SHLD and SHRD
 
 -- the bits of a moved by c, and behind them those of b
-abbrev pub joined : Op → Op → Width → ℕ → ℕ → ℕ → ℕ
-joined op other w a b c = apply_op Or w (apply_op op w a c) (apply_op other w b (bits_of w - c))
+abbrev pub or_of_shifts : Op → Op → Width → ℕ → ℕ → ℕ → ℕ
+or_of_shifts op other w a b c = apply_op Or w (apply_op op w a c) (apply_op other w b (bits_of w - c))
 
 -- by a count of the width or more the result is free
 abbrev pub double_result : Op → Op → Width → ℕ → ℕ → ℕ → Choice → ℕ
-double_result op other w a b c choice = if nat_lt c (bits_of w) then joined op other w a b c else cut w choice.eax
+double_result op other w a b c choice = if nat_lt c (bits_of w) then or_of_shifts op other w a b c else cut w choice.eax
 
 -- past the width all six flags are free
 abbrev pub double_flags : FlagRule → Width → ℕ → ℕ → ℕ → Choice → Flags → Flags

@@ -56,7 +56,7 @@ enum Step<D> {
     Block(Region),
     Put(Area, i64, Width, D),
     Read(Area, i64, Width, D),
-    Known(u32, Option<u8>),
+    Byte(u32, Option<u8>),
 }
 
 // The 16 bytes 00 to 0F from 2000 on, of which those at 2008 and 2009 are unset.
@@ -191,7 +191,7 @@ fn take_step<D: Domain>(
             let found = parts.read(&sample.segments, &sample.unset, area, low, w);
             assert!(rt; found == want, "a read at {low} in {name}");
         }
-        Step::Known(a, want) => {
+        Step::Byte(a, want) => {
             let found = parts.known_byte(&sample.segments, &sample.unset, a);
             assert!(rt; found == want, "the byte at {a:X} in {name}");
         }
@@ -305,11 +305,11 @@ fn a_byte_of_the_image_is_known_as_loaded_or_by_a_fact(rt: HostRuntime) -> Resul
         alloc,
         "the image as it was loaded",
         &[
-            Step::Known(0x2000, Some(0)),
-            Step::Known(0x200F, Some(15)),
-            Step::Known(0x2008, None),
-            Step::Known(0x1FFF, None),
-            Step::Known(0x2010, None),
+            Step::Byte(0x2000, Some(0)),
+            Step::Byte(0x200F, Some(15)),
+            Step::Byte(0x2008, None),
+            Step::Byte(0x1FFF, None),
+            Step::Byte(0x2010, None),
         ],
         &[],
         &[],
@@ -321,14 +321,14 @@ fn a_byte_of_the_image_is_known_as_loaded_or_by_a_fact(rt: HostRuntime) -> Resul
         "a word and a half over unset bytes",
         &[
             Step::Exact(IMAGE, 0x2004, B32, num(0xDDCC_BBAA)),
-            Step::Known(0x2003, Some(3)),
-            Step::Known(0x2004, Some(0xAA)),
-            Step::Known(0x2006, Some(0xCC)),
-            Step::Known(0x2007, Some(0xDD)),
+            Step::Byte(0x2003, Some(3)),
+            Step::Byte(0x2004, Some(0xAA)),
+            Step::Byte(0x2006, Some(0xCC)),
+            Step::Byte(0x2007, Some(0xDD)),
             Step::Exact(IMAGE, 0x2008, B16, num(0x0201)),
-            Step::Known(0x2008, Some(1)),
-            Step::Known(0x2009, Some(2)),
-            Step::Known(0x200A, Some(10)),
+            Step::Byte(0x2008, Some(1)),
+            Step::Byte(0x2009, Some(2)),
+            Step::Byte(0x200A, Some(10)),
         ],
         &[
             fact(IMAGE, 0x2004, B32, num(0xDDCC_BBAA)),
@@ -344,10 +344,10 @@ fn a_byte_of_the_image_is_known_as_loaded_or_by_a_fact(rt: HostRuntime) -> Resul
         &[
             Step::Exact(IMAGE, 0x2004, B32, num(0xDDCC_BBAA)),
             Step::Exact(IMAGE, 0x2005, B8, ANY),
-            Step::Known(0x2004, None),
-            Step::Known(0x2005, None),
-            Step::Known(0x2007, None),
-            Step::Known(0x2003, Some(3)),
+            Step::Byte(0x2004, None),
+            Step::Byte(0x2005, None),
+            Step::Byte(0x2007, None),
+            Step::Byte(0x2003, Some(3)),
         ],
         &[],
         &[dirty(IMAGE, 0x2004, 4)],

@@ -31,9 +31,9 @@ returns g c =
     let pieces = c.in_ok-pieces.pieces.items in
     let count = c.in_ok-pieces.ensures.len in
     let room = covering (length pieces) (length rows) size c.requires.piece (search rules) in
-    IfOk-weaker c.joined.result _ _
+    IfOk-weaker c.in_order.result _ _
     (λ posts is. posts_joined d image stubs k 0 size pieces rows posts.items room
     (λ n none within.
     let piece = (c.in_ok-pieces.ensures.each n none within).1 in
     let P : List (Row (Known g.row.D.Denot)) → Type 0 = λ l. IfOk (get_or pieces n none) (λ part. ArePosts d image stubs k l part.items) in
-    subst P piece.argument_is.value piece.call) is) c.joined.ensures
+    subst P piece.argument_is.value piece.call) is) c.in_order.ensures

@@ -19,7 +19,7 @@ returns-in_ok-push-in-Some c =
     let New : List Span → Type 0 = λ l. Extends (xs ++ last ∷ []) s l in
     let meets : s.low ≤ last.low + last.size = omega (arith, c.if-from-end_of.true, c.from.ensures, c.end_of.ensures) in
     subst Old (sym whole) (subst New (sym c.in_ok-push-in-Some.ensures.items)
-    (extends_joined xs last s (subst Sep whole c.requires.separate) (subst Fit whole c.requires.below) (subst By whole c.requires.order) c.requires.next c.joined.result meets c.joined.ensures.low c.joined.ensures.end))
+    (extends_joined xs last s (subst Sep whole c.requires.separate) (subst Fit whole c.requires.below) (subst By whole c.requires.order) c.requires.next c.as_one.result meets c.as_one.ensures.low c.as_one.ensures.end))
 
 pub returns-in_ok-push-in-Some-3 : goal.returns-in_ok-push-in-Some-3
 returns-in_ok-push-in-Some-3 c =

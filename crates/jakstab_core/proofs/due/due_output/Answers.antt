@@ -4,7 +4,7 @@ use Rattle.std.specs.Prelude.{string_bytes, option_map, Some}
 use Rattle.std.proofs.lemmas.Result.{MatchResult-weaker}
 use Rattle.command_words.specs.Reader.{task_of}
 use Rattle.command_words.specs.Words.{Command, Demo, command_of, on_image}
-use Rattle.jakstab_core.specs.Inputs.{Reading}
+use Rattle.jakstab_core.specs.Inputs.{ShelfCall}
 use Rattle.jakstab_core.specs.Says.{Call}
 use Rattle.jakstab_core.proofs.Saying.{refused}
 use Rattle.jakstab_core.proofs.due.due_output.Goals as goal

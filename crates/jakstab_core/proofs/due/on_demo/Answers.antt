@@ -9,7 +9,7 @@ use Rattle.jakstab_core.specs.declared.status.Input.TheVariants as inputs
 use Rattle.jakstab_core.specs.declared.work.Work.{Work}
 use Rattle.jakstab_core.specs.declared.work.Work.TheVariants as works
 use Rattle.jakstab_core.specs.Tasks.{AreStubs}
-use Rattle.jakstab_core.specs.Inputs.{Reading, Made, OfBytes, image_of, limit_of}
+use Rattle.jakstab_core.specs.Inputs.{ShelfCall, Made, OfBytes, image_of, limit_of}
 use Rattle.jakstab_core.specs.Says.{IsCommandRefused}
 use Rattle.jakstab_core.specs.Due.{OrMemory}
 use Rattle.jakstab_core.proofs.Finding.{IsLater, demo_stubs_refused, start_refused, stubs_refused_later, text_found}

@@ -8,7 +8,7 @@ use Rattle.image_loader.specs.Loading.{LaidOut, laid_out_by, load_of}
 use Rattle.command_words.specs.Reader.{task_of}
 use Rattle.command_words.specs.Words.{Command, on_image}
 use Rattle.jakstab_core.specs.declared.status.Input.TheVariants as inputs
-use Rattle.jakstab_core.specs.Inputs.{Reading, OfBytes, image_of, stubs_of, limit_of}
+use Rattle.jakstab_core.specs.Inputs.{ShelfCall, OfBytes, image_of, stubs_of, limit_of}
 use Rattle.jakstab_core.specs.Tasks.{AreStubs, IsWork}
 use Rattle.jakstab_core.specs.Says.{IsCommandRefused}
 use Rattle.jakstab_core.specs.Due.{OrMemory}
@@ -18,12 +18,12 @@ use Rattle.jakstab_core.proofs.due.on_image.Goals as goal
 pub returns-in_err-stubs : goal.returns-in_err-stubs
 returns-in_err-stubs g c =
     let asked : Command = on_image c.args.command.image.now (option_map (λ s. s.now) c.args.command.stubs) (task_of c.args.command.task) in
-    let r : Reading = record {
+    let r : ShelfCall = record {
       held = g.S.Shelf.contents c.args.shelf.now;
       faults_before = g.S.Shelf.faults c.args.shelf.now;
       faults_after = g.S.Shelf.faults c.read_stub_file.new.shelf;
     } in
-    let later : Reading = record {
+    let later : ShelfCall = record {
       held = g.S.Shelf.contents c.read_image.new.shelf;
       faults_before = g.S.Shelf.faults c.read_image.new.shelf;
       faults_after = g.S.Shelf.faults c.read_stub_file.new.shelf;
@@ -37,12 +37,12 @@ returns-in_err-stubs g c =
 pub returns-in_err-work : goal.returns-in_err-work
 returns-in_err-work g c =
     let asked : Command = on_image c.args.command.image.now (option_map (λ s. s.now) c.args.command.stubs) (task_of c.args.command.task) in
-    let r : Reading = record {
+    let r : ShelfCall = record {
       held = g.S.Shelf.contents c.args.shelf.now;
       faults_before = g.S.Shelf.faults c.args.shelf.now;
       faults_after = g.S.Shelf.faults c.read_work.new.shelf;
     } in
-    let later : Reading = record {
+    let later : ShelfCall = record {
       held = g.S.Shelf.contents c.read_stub_file.new.shelf;
       faults_before = g.S.Shelf.faults c.read_stub_file.new.shelf;
       faults_after = g.S.Shelf.faults c.read_work.new.shelf;
@@ -62,7 +62,7 @@ returns-in_err-work g c =
 pub returns : goal.returns
 returns g c =
     let asked : Command = on_image c.args.command.image.now (option_map (λ s. s.now) c.args.command.stubs) (task_of c.args.command.task) in
-    let r : Reading = record {
+    let r : ShelfCall = record {
       held = g.S.Shelf.contents c.args.shelf.now;
       faults_before = g.S.Shelf.faults c.args.shelf.now;
       faults_after = g.S.Shelf.faults c.read_work.new.shelf;

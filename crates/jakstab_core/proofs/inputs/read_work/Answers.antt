@@ -6,18 +6,18 @@ use Rattle.outside_io.specs.Outside.{Contents}
 use Rattle.run_replayer.specs.Grammar.{StatesRecord}
 use Rattle.jakstab_core.specs.declared.status.Input.TheVariants as inputs
 use Rattle.jakstab_core.specs.Due.{OrMemory}
-use Rattle.jakstab_core.specs.Inputs.{AreRefused, File, OfBytes, Reading, automaton_source, limit_of, record_source}
+use Rattle.jakstab_core.specs.Inputs.{AreRefused, File, OfBytes, ShelfCall, automaton_source, limit_of, record_source}
 use Rattle.jakstab_core.proofs.Finding.{IsLater, record_refused_later}
 use Rattle.jakstab_core.proofs.inputs.read_work.Goals as goal
 
 pub returns-in_err-record-in-Replay-clause-read : goal.returns-in_err-record-in-Replay-clause-read
 returns-in_err-record-in-Replay-clause-read g c =
-    let r : Reading = record {
+    let r : ShelfCall = record {
       held = g.S.Shelf.contents c.args.shelf.now;
       faults_before = g.S.Shelf.faults c.args.shelf.now;
       faults_after = g.S.Shelf.faults c.read_record_file.new.shelf;
     } in
-    let later : Reading = record {
+    let later : ShelfCall = record {
       held = g.S.Shelf.contents c.read_automaton_file.new.shelf;
       faults_before = g.S.Shelf.faults c.read_automaton_file.new.shelf;
       faults_after = g.S.Shelf.faults c.read_record_file.new.shelf;

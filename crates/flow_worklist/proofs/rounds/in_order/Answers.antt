@@ -6,7 +6,7 @@ use Rattle.std.specs.declared.alloc.Global.{Global}
 use Rattle.bit_words.specs.declared.memory.NoMemory.{NoMemory}
 use Rattle.flow_worklist.specs.declared.post.Post.{Post}
 use Rattle.flow_worklist.proofs.Taking.{joining_starts, joining_more, joining_ends, no_length}
-use Rattle.flow_worklist.proofs.rounds.joined.Goals as goal
+use Rattle.flow_worklist.proofs.rounds.in_order.Goals as goal
 
 pub loop-piece-init : goal.loop-piece-init
 loop-piece-init g c =

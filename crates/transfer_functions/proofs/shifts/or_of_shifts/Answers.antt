@@ -1,5 +1,5 @@
 use Rattle.bit_words.specs.declared.width.Width.TheVariants.{B32}
-use Rattle.transfer_functions.proofs.shifts.joined.Goals as goal
+use Rattle.transfer_functions.proofs.shifts.or_of_shifts.Goals as goal
 
 pub returns-clause-holds : goal.returns-clause-holds
 returns-clause-holds g c = λ blocks u v h k.
