@@ -1,12 +1,11 @@
 ghost use Rattle.std.specs.Prelude.{◌≡◌, ◌+◌, ◌<◌, ◌^◌, length, map, find, is_some, option_copied, take, drop, ◌-◌, nat_le, ◌&&◌, IfSome, IsTrue};
-ghost use Rattle.std.specs.List.{list_all};
 ghost use Rattle.std.specs.Option.{option_map};
 ghost use Rattle.memory_map.specs.Map.{range_of};
-ghost use Rattle.memory_map.specs.Name.{is_name, is_name_byte};
+ghost use Rattle.memory_map.specs.Name.{is_name};
 ghost use Rattle.memory_map.specs.Range.{holds};
 ghost use Rattle.file_pieces.specs.Found.{bytes_at, is_in_one, name_at, passes_end, rest_at, text_of, IsHeld};
 
-use memory_map::{LONGEST_NAME, Segment, Segments};
+use memory_map::{LONGEST_NAME, Segment, Segments, is_name};
 
 /// Whether a range of file bytes is not empty and passes the file's end.
 pub fn passes_end(file: &[u8], offset: u64, size: u64) -> bool
@@ -103,30 +102,6 @@ fn front(bytes: &[u8], most: usize) -> &[u8]
     ensures { result.now ≡ take most bytes.now }
 {
     &bytes[..bytes.len().min(most)]
-}
-
-fn is_name_byte(b: u8) -> bool
-    ensures { result ≡ is_name_byte b }
-{
-    0x21 <= b && b <= 0x7E
-}
-
-fn has_name_length(bytes: &[u8]) -> bool
-    ensures { result ≡ (nat_le 1 (length bytes.now) && nat_le (length bytes.now) 4096) }
-{
-    1 <= bytes.len() && bytes.len() <= LONGEST_NAME
-}
-
-fn are_name_bytes(bytes: &[u8]) -> bool
-    ensures { result ≡ list_all is_name_byte bytes.now }
-{
-    bytes.iter().all(|b| is_name_byte(*b))
-}
-
-fn is_name(bytes: &[u8]) -> bool
-    ensures { result ≡ is_name bytes.now }
-{
-    has_name_length(bytes) && are_name_bytes(bytes)
 }
 
 /// The name of an import that begins at an address, where a 0 ends it within `most` bytes and within one segment.

@@ -1,27 +1,12 @@
 ghost use Rattle.std.specs.Prelude.{◌≡◌, ◌<◌, ◌≤◌, ◌+◌, All, IfOk, OnOk, max};
-ghost use Rattle.std.specs.List.Sorted.{IsNonDecreasingBy, IsPermutation};
+ghost use Rattle.std.specs.List.Sorted.{IsNonDecreasingBy};
 ghost use Rattle.memory_map.specs.Range.{USER_END};
 ghost use Rattle.memory_map.specs.Spans.{IsBelow};
 ghost use Rattle.image_listing.specs.Listing.{unset_runs};
 ghost use Rattle.image_listing.specs.Merging.{AreRuns, AreSeparate, BeginBy, Extends, Fits};
 
-use memory_map::Span;
+use memory_map::{Span, sort_by_low};
 use std::alloc::{AllocError, Global};
-
-// Sorts ranges by their first addresses.
-fn sort_by_low(spans: &mut Vec<Span>) -> Result<(), AllocError>
-    ensures moved { IsPermutation spans.old.items spans.new.items }
-    ensures sorted { OnOk result (IsNonDecreasingBy (λ s. s.low) spans.new.items) }
-{
-    spans.sort_by_key(|s| s.low)?;
-    Ok(())
-}
-
-fn end_of(s: &Span) -> u64
-    ensures { result ≡ s.now.low + s.now.size }
-{
-    u64::from(s.low) + u64::from(s.size)
-}
 
 // Two ranges that meet or touch, as one.
 fn as_one(last: Span, s: &Span) -> Span
@@ -31,7 +16,7 @@ fn as_one(last: Span, s: &Span) -> Span
     ensures low { result.low ≡ last.low }
     ensures end { result.low + result.size ≡ max (last.low + last.size) (s.now.low + s.now.size) }
 {
-    let end = end_of(&last).max(end_of(s));
+    let end = last.end().max(s.end());
     Span {
         low: last.low,
         size: (end - u64::from(last.low)) as u32,
@@ -49,7 +34,7 @@ fn put_after(runs: &mut Vec<Span>, s: Span) -> Result<(), AllocError>
 {
     match runs.pop() {
         Some(last) => {
-            if u64::from(s.low) <= end_of(&last) {
+            if u64::from(s.low) <= last.end() {
                 runs.push(as_one(last, &s))?;
             } else {
                 runs.push(last)?;

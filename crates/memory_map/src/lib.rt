@@ -30,13 +30,13 @@ pub use file_bytes::{half_at, word_at};
 pub use format::Format;
 pub use import_name::ImportName;
 pub use items::Items;
-pub use name::{LONGEST_NAME, MOST_NAMES, Name};
+pub use name::{LONGEST_NAME, MOST_NAMES, Name, is_name};
 pub use perm::Perm;
 pub use ranges::Ranges;
 pub use registers::Regs;
 pub use segment::{Segment, USER_END, USER_LOW};
 pub use segments::{MAPPED_BYTES, Segments};
-pub use span::Span;
+pub use span::{Span, sort_by_low};
 
 #[cfg(test)]
 mod tests;

@@ -117,7 +117,8 @@ fn are_name_bytes(bytes: &[u8]) -> bool
     bytes.iter().all(|b| is_name_byte(*b))
 }
 
-fn is_name(bytes: &[u8]) -> bool
+/// Whether bytes are a name: 1 to 4,096 of them, each from 21 to 7E.
+pub fn is_name(bytes: &[u8]) -> bool
     ensures { result ≡ is_name bytes.now }
 {
     has_name_length(bytes) && are_name_bytes(bytes)

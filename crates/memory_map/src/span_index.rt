@@ -1,9 +1,9 @@
-ghost use Rattle.std.specs.Prelude.{◌≡◌, ◌≤◌, ◌+◌, true, false, length, nat_le, IfOk, OnOk};
+ghost use Rattle.std.specs.Prelude.{◌≡◌, ◌≤◌, true, false, length, nat_le, IfOk};
 ghost use Rattle.std.specs.List.Sorted.{IsNonDecreasingBy, IsPartitionPoint, IsPermutation};
 ghost use Rattle.memory_map.specs.Spans.{is_in_ranges};
 ghost use Rattle.memory_map.specs.Indexing.{IsIndexed};
 
-use crate::Span;
+use crate::{Span, sort_by_low};
 use std::alloc::{AllocError, Global};
 use std::marker::Model;
 
@@ -27,20 +27,6 @@ impl Model for SpanIndex {
     ghost invariant = { λ i. IsIndexed i.sorted.items i.ends.items };
 }
 
-fn sort_by_low(spans: &mut Vec<Span>) -> Result<(), AllocError>
-    ensures moved { IsPermutation spans.old.items spans.new.items }
-    ensures sorted { OnOk result (IsNonDecreasingBy (λ s. s.low) spans.new.items) }
-{
-    spans.sort_by_key(|s| s.low)?;
-    Ok(())
-}
-
-fn end_of(s: &Span) -> u64
-    ensures { result ≡ s.now.low + s.now.size }
-{
-    u64::from(s.low) + u64::from(s.size)
-}
-
 // For each span the address after the last one of all up to it.
 fn ends_of(alloc: Global, sorted: &[Span]) -> Result<Vec<u64>, AllocError>
     requires { IsNonDecreasingBy (λ s. s.low) sorted.now }
@@ -49,7 +35,7 @@ fn ends_of(alloc: Global, sorted: &[Span]) -> Result<Vec<u64>, AllocError>
     let mut ends = Vec::with_capacity(alloc, sorted.len())?;
     let mut end = 0u64;
     for s in sorted {
-        end = end.max(end_of(s));
+        end = end.max(s.end());
         ends.push(end)?;
     }
     Ok(ends)

@@ -9,18 +9,7 @@ ghost use Rattle.statement_lang.specs.Run.{set_to};
 
 use bit_words::{Flags, Width, flags_of_add, flags_of_logic, flags_of_sub};
 use bitflags::Flags as _;
-use x86_semantics::FlagRule;
-
-fn status_flags() -> Flags
-    ensures { result ≡ status_flags }
-{
-    Flags::CARRY
-        .union(Flags::PARITY)
-        .union(Flags::ADJUST)
-        .union(Flags::ZERO)
-        .union(Flags::SIGN)
-        .union(Flags::OVERFLOW)
-}
+use x86_semantics::{FlagRule, status_flags};
 
 /// The status flags of a byte, CF PF AF ZF SF OF from bit 0 on; DF is clear.
 pub fn status_of(bits: u8) -> Flags

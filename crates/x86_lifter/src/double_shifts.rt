@@ -5,12 +5,11 @@ ghost use Rattle.x86_lifter.specs.Lists.{double_shifting};
 
 use crate::pieces::{
     behind_places, choose, fetch, fetch_register, free, free_flags, go_to, keep, put, set_flags,
-    status_flags,
 };
 use crate::shifts::{of_count, unless_zero};
 use bit_words::{Flags, Op, Width};
 use statement_lang::{Source, Stmt, Stmts};
-use x86_semantics::FlagRule;
+use x86_semantics::{FlagRule, status_flags};
 use x86_syntax::Operand;
 
 // How far the register's bits go to come behind those of the first operand: the width less the count.

@@ -1,10 +1,9 @@
 ghost use Rattle.std.specs.Prelude.{◌≡◌, ◌≤◌, ◌+◌, ◌++◌, length};
 ghost use Rattle.arrayvec.specs.ArrayVec.{array_vec_len};
 ghost use Rattle.x86_lifter.specs.Pieces.{base_source, fetching, fetching_register, index_source, keeping, keeping_register, nothing, placing, places, scale_of, address_from};
-ghost use Rattle.x86_semantics.specs.FlagRules.{free_of, status_flags};
+ghost use Rattle.x86_semantics.specs.FlagRules.{free_of};
 
 use bit_words::{Flags, Op, Width};
-use bitflags::Flags as _;
 use statement_lang::{Source, Stmt, Stmts, Test};
 use x86_semantics::{FlagRule, byte_part, put_byte_part};
 use x86_syntax::{Address, Operand};
@@ -228,18 +227,6 @@ pub fn free_flags(which: Flags) -> Stmt
     ensures { result ≡ Stmt.FreeFlags which }
 {
     Stmt::FreeFlags { which }
-}
-
-/// The status flags, which are all but DF.
-pub fn status_flags() -> Flags
-    ensures { result ≡ status_flags }
-{
-    Flags::CARRY
-        .union(Flags::PARITY)
-        .union(Flags::ADJUST)
-        .union(Flags::ZERO)
-        .union(Flags::SIGN)
-        .union(Flags::OVERFLOW)
 }
 
 /// The flags that a rule leaves free.

@@ -5,11 +5,10 @@ ghost use Rattle.x86_lifter.specs.Lists.{dividing, multiplying, multiplying_long
 use crate::moves::none;
 use crate::pieces::{
     behind_places, fetch, fetch_register, free, free_flags, go_to, keep_register, put, set_flags,
-    status_flags,
 };
 use bit_words::{Op, Width};
 use statement_lang::{Source, Stmt, Stmts};
-use x86_semantics::{FlagRule, upper_register};
+use x86_semantics::{FlagRule, status_flags, upper_register};
 use x86_syntax::Operand;
 
 const EAX: u8 = 0;

@@ -1,5 +1,5 @@
 ghost use Rattle.std.specs.Prelude.{◌≡◌};
-ghost use Rattle.x86_semantics.specs.FlagRules.{free_of};
+ghost use Rattle.x86_semantics.specs.FlagRules.{free_of, status_flags};
 
 use bit_words::Flags;
 use bitflags::Flags as _;
@@ -46,6 +46,18 @@ pub enum FlagRule {
     BitScan,
     /// SAHF: CF, PF, AF, ZF and SF are the bits 0, 2, 4, 6 and 7 of `a`.
     Status,
+}
+
+/// The status flags, which are all but DF.
+pub fn status_flags() -> Flags
+    ensures { result ≡ status_flags }
+{
+    Flags::CARRY
+        .union(Flags::PARITY)
+        .union(Flags::ADJUST)
+        .union(Flags::ZERO)
+        .union(Flags::SIGN)
+        .union(Flags::OVERFLOW)
 }
 
 impl FlagRule {

@@ -12,7 +12,7 @@ mod parts;
 mod widths;
 
 pub use addresses::{branch_target, next_address};
-pub use flag_rule::FlagRule;
+pub use flag_rule::{FlagRule, status_flags};
 pub use operation::{BitChange, FlagChange, Looping, Operation, StringKind};
 pub use operations::operation_of;
 pub use parts::{byte_part, put_byte_part, upper_register};

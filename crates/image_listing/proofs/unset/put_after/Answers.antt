@@ -17,7 +17,7 @@ returns-in_ok-push-in-Some c =
     let By : List Span → Type 0 = λ l. BeginBy s.low l in
     let Old : List Span → Type 0 = λ l. Extends l s c.push.new.self.items in
     let New : List Span → Type 0 = λ l. Extends (xs ++ last ∷ []) s l in
-    let meets : s.low ≤ last.low + last.size = omega (arith, c.if-from-end_of.true, c.from.ensures, c.end_of.ensures) in
+    let meets : s.low ≤ last.low + last.size = omega (arith, c.if-from-end.true, c.from.ensures, c.end.ensures) in
     subst Old (sym whole) (subst New (sym c.in_ok-push-in-Some.ensures.items)
     (extends_joined xs last s (subst Sep whole c.requires.separate) (subst Fit whole c.requires.below) (subst By whole c.requires.order) c.requires.next c.as_one.result meets c.as_one.ensures.low c.as_one.ensures.end))
 
@@ -30,8 +30,8 @@ returns-in_ok-push-in-Some-3 c =
     let Sep : List Span → Type 0 = λ l. AreSeparate 0 l in
     let Fit : List Span → Type 0 = λ l. All (IsBelow USER_END) l in
     let By : List Span → Type 0 = λ l. BeginBy s.low l in
-    let Old : List Span → Type 0 = λ l. Extends l s c.push-else-from-end_of-2.new.self.items in
+    let Old : List Span → Type 0 = λ l. Extends l s c.push-else-from-end-2.new.self.items in
     let New : List Span → Type 0 = λ l. Extends (xs ++ last ∷ []) s l in
-    let gap : last.low + last.size < s.low = omega (arith, c.if-from-end_of.false, c.from.ensures, c.end_of.ensures) in
+    let gap : last.low + last.size < s.low = omega (arith, c.if-from-end.false, c.from.ensures, c.end.ensures) in
     subst Old (sym whole) (subst New (sym (c.in_ok-push-in-Some-3.ensures.items ∙ ap (λ (l : List Span). l ++ s ∷ []) c.in_ok-push-in-Some-2.ensures.items))
     (extends_apart xs last s (subst Sep whole c.requires.separate) (subst Fit whole c.requires.below) (subst By whole c.requires.order) c.requires.next c.requires.some gap))

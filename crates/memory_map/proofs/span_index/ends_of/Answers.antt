@@ -14,6 +14,6 @@ loop-s-preserved c =
     let inv = c.loop-s.invariant in
     let By : ℕ → Type 0 = λ n. EndBy sorted (i + 1) n in
     let more : EndBy sorted (i + 1) end =
-    subst By (sym (c.max-end.ensures ∙ ap (max c.loop-s.end) c.end_of.ensures)) (end_more sorted i c.loop-s.end d c.loop-s-test.true inv.1) in
+    subst By (sym (c.max-end.ensures ∙ ap (max c.loop-s.end) c.end.ensures)) (end_more sorted i c.loop-s.end d c.loop-s-test.true inv.1) in
     let size : length c.push.new.self.items ≡ i + 1 = ap length c.in_ok-push.ensures.items ∙ length_push c.loop-s.ends.items end ∙ ap (λ n. n + 1) inv.0 in
     (size, more, ends_more sorted c.loop-s.ends.items c.push.new.self.items i end inv.0 c.in_ok-push.ensures.items more inv.2)
