@@ -36,13 +36,14 @@ use Rattle.automaton_text.specs.Laws.{OrderlyAutomataAreReadBack, fits_edge, fit
 use Rattle.automaton_text.specs.Orderly.{IsOrderly, ascend, edge_text, has_own_name, is_edge_above, is_edge_among, is_label_at, is_location_above, is_opening_above}
 use Rattle.automaton_text.specs.Reading.{NO_ENTRY, AutomatonSoFar, all_causes, automaton_grammar, automaton_read, automaton_step, cause_of, code_fields, code_step, count_fields, edge_step, end_fields, end_step, entry_step, has_own_suffix, header_step, import_fields, import_step, is_above, is_code, is_line_above, is_location, is_mark_above, is_marks, is_named, is_over, is_place_of, label_step, later_step, location_fields, location_or_later_step, location_step, mark_fields, mark_step, name_of, nothing, own_name, row_fields, row_of, suffix_fields, text_fields, told, version_of}
 use Rattle.automaton_text.specs.Text.{HaveRowsBy, cause_text, code_text, edge_line, end_line, entry_line, header_line, import_suffix, is_version, label_text, loc_line, open_line, row_suffix, suffix_of, text_of}
-use Rattle.automaton_text.proofs.ClearTexts.{clear_both, clear_code, is_clear, is_plain, plain_bytes, plain_cause, plain_clear, plain_decimal, plain_is, plain_name, plain_word}
+use Rattle.automaton_text.proofs.ClearTexts.{clear_both, clear_code, is_clear, plain_cause, plain_clear, plain_name}
 use Rattle.automaton_text.proofs.FieldsTold.{import_text, row_list, suffix_list}
 use Rattle.automaton_text.proofs.Reading.{text_back}
 use Rattle.automaton_text.proofs.Told.{edge_whole, end_whole, mark_whole, reading}
 use Rattle.std.proofs.lemmas.Bool.{and_parts, and_from, not-true}
 use Rattle.text_fields.proofs.Found.{word_same}
 use Rattle.text_fields.proofs.LastOnes.{last_of_more}
+use Rattle.text_fields.proofs.PlainTexts.{is_plain, plain_is, plain_word, plain_bytes, plain_decimal}
 
 -- ---- lists that go on from an element
 

@@ -1,10 +1,9 @@
 -- The texts of fields are plain, and are read as what they are of.
 use Rattle.std.proofs.Common.{◌≡◌, ℕ, zero, suc, ◌+◌, ◌*◌, ◌^◌, ◌/◌, ◌%◌, ◌<◌, ◌≤◌, Bool, true, false, List, [], ◌∷◌, length, Option, Some, refl, sym, ◌∙◌, ap, subst, arith}
 use Rattle.std.proofs.lemmas.Bool.Decides.{nat_tests}
-use Rattle.std.proofs.lemmas.List.Elements.{All-append, All-cons, All-nil}
-use Rattle.std.specs.Prelude.{All, option_map, nat_lt, ◌&&◌}
-use Rattle.std.specs.List.{list_all}
-use Rattle.text_fields.specs.Hex.{hex2, hex8, hex_digit, hex_digits, hex_text}
+use Rattle.std.proofs.lemmas.List.Elements.{All-cons, All-nil}
+use Rattle.std.specs.Prelude.{All, option_map}
+use Rattle.text_fields.specs.Hex.{hex2, hex8, hex_text}
 use Rattle.memory_map.specs.declared.choice.Choice.{Choice}
 use Rattle.memory_map.specs.declared.choice.Fill.{Fill}
 use Rattle.x86_machine.specs.StartLaws.{IsFill}
@@ -18,41 +17,9 @@ use Rattle.run_replayer.specs.Laws.{IsChoice, IsStep}
 use Rattle.text_fields.proofs.FieldTexts.{byte_read, bytes_read, word_read, then_given, bool_read}
 use Rattle.run_replayer.proofs.LineTexts.{words_of}
 use Rattle.text_fields.proofs.Splitting.{ArePlain, IsPlain, one}
+use Rattle.text_fields.proofs.PlainTexts.{plain_is, word_plain}
 
 -- ---- plain texts
-
--- a known text is plain where each of its bytes is tested to be
-plain_test : (c : ℕ) (cs : List ℕ) (t rest : Bool) → nat_lt 32 c ≡ t → (rest ≡ true → IsPlain cs) → (t && rest) ≡ true → IsPlain (c ∷ cs)
-plain_test c cs true rest f go k = All-cons (λ b. 32 < b) c cs (grind (arith, nat_tests)) (go k)
-plain_test c cs false rest f go k = cc
-
-pub plain_by : (cs : List ℕ) → list_all (λ b. nat_lt 32 b) cs ≡ true → IsPlain cs
-plain_by [] e = All-nil (λ b. 32 < b)
-plain_by (c ∷ cs) e = plain_test c cs (nat_lt 32 c) (list_all (λ b. nat_lt 32 b) cs) refl (λ k. plain_by cs k) e
-
-digit_plain : (d : ℕ) → d < 16 → 32 < hex_digit d
-unfolding hex_digit
-digit_plain d small = grind (arith, nat_tests)
-
-pub digits_plain : (k n : ℕ) → IsPlain (hex_digits k n)
-unfolding hex_digits
-digits_plain zero n = All-nil (λ b. 32 < b)
-digits_plain (suc k) n =
-    All-append (λ b. 32 < b) (hex_digits k (n / 16)) (hex_digit (n % 16) ∷ []) (digits_plain k (n / 16))
-    (All-cons (λ b. 32 < b) (hex_digit (n % 16)) [] (digit_plain (n % 16) (omega arith)) (All-nil (λ b. 32 < b)))
-
-pub word_plain : (n : ℕ) → IsPlain (hex8 n)
-unfolding hex8
-word_plain n = digits_plain 8 n
-
-pub byte_plain : (n : ℕ) → IsPlain (hex2 n)
-unfolding hex2
-byte_plain n = digits_plain 2 n
-
-pub bytes_plain : (bytes : List ℕ) → IsPlain (hex_text bytes)
-unfolding hex_text
-bytes_plain [] = All-nil (λ b. 32 < b)
-bytes_plain (b ∷ bytes) = All-append (λ b. 32 < b) (hex2 b) (hex_text bytes) (byte_plain b) (bytes_plain bytes)
 
 bits_plain : (b : ℕ) (more : List ℕ) → IsPlain more → IsPlain ((48 + b) ∷ more)
 bits_plain b more plain = All-cons (λ b. 32 < b) (48 + b) more (omega arith) plain
@@ -176,9 +143,9 @@ end_read ends.NoStub = refl
 end_read ends.BadChoice = refl
 
 pub end_plain : (end : EndWord) → IsPlain (end_word end)
-end_plain ends.Steps = plain_by (end_word ends.Steps) refl
-end_plain ends.Exited = plain_by (end_word ends.Exited) refl
-end_plain ends.Faulted = plain_by (end_word ends.Faulted) refl
-end_plain ends.NotListed = plain_by (end_word ends.NotListed) refl
-end_plain ends.NoStub = plain_by (end_word ends.NoStub) refl
-end_plain ends.BadChoice = plain_by (end_word ends.BadChoice) refl
+end_plain ends.Steps = plain_is (end_word ends.Steps) refl
+end_plain ends.Exited = plain_is (end_word ends.Exited) refl
+end_plain ends.Faulted = plain_is (end_word ends.Faulted) refl
+end_plain ends.NotListed = plain_is (end_word ends.NotListed) refl
+end_plain ends.NoStub = plain_is (end_word ends.NoStub) refl
+end_plain ends.BadChoice = plain_is (end_word ends.BadChoice) refl

@@ -18,12 +18,13 @@ use Rattle.run_replayer.specs.Fields.{bases_of, regs_of, six_flags_of}
 use Rattle.run_replayer.specs.Grammar.{StatesRecord, behind_word, head_step, is_rest, no_record, or_field, record_grammar, record_rest, record_step, with_record_fill, within}
 use Rattle.run_replayer.specs.Laws.{IsInBounds, IsStep}
 use Rattle.run_replayer.specs.Texts.{bases_line, choice_fields, end_word, fill_line, flag_digits, flags_line, record_header, record_text, regs_line, start_lines, step_lines, word_field}
-use Rattle.run_replayer.proofs.FieldReads.{bases_read, byte_plain, bytes_plain, choice_fields_of, end_plain, end_read, fill_read, flags_plain, plain_by, regs_read, six_flags_read, step_read, bool_plain, word_plain, words_plain}
+use Rattle.run_replayer.proofs.FieldReads.{bases_read, choice_fields_of, end_plain, end_read, fill_read, flags_plain, regs_read, six_flags_read, step_read, bool_plain, words_plain}
 use Rattle.run_replayer.proofs.FillFacts.{filled_step}
 use Rattle.run_replayer.proofs.LineTexts.{bases_explicit, choice_explicit, fill_explicit, flags_explicit, regs_explicit, words_of, words_spaced}
 use Rattle.text_fields.proofs.Splitting.{ArePlain, IsPlain, Reaches, fields_spaced, none, one, plain_line, reaches_both, reaches_end, reaches_line, reaches_none, spaced, spaced_line}
 use Rattle.text_fields.proofs.Found.{word_same}
 use Rattle.text_fields.specs.Fields.{bool_text}
+use Rattle.text_fields.proofs.PlainTexts.{plain_is, word_plain, byte_plain, bytes_plain}
 
 -- where a record stands while it is read
 abbrev at : Due → List ℕ → ℕ → ℕ → ℕ → List Fill → List RunStep → Option EndWord → RecordReader
@@ -47,13 +48,13 @@ word_read word fs go a plain others made = rw (fields_spaced word fs plain other
 -- ---- the head
 
 regs_word : IsPlain (codes "regs")
-regs_word = plain_by (codes "regs") refl
+regs_word = plain_is (codes "regs") refl
 
 flags_word : IsPlain (codes "flags")
-flags_word = plain_by (codes "flags") refl
+flags_word = plain_is (codes "flags") refl
 
 bases_word : IsPlain (codes "bases")
-bases_word = plain_by (codes "bases") refl
+bases_word = plain_is (codes "bases") refl
 
 -- the two fields of the first line
 header_fields : List (List ℕ)
@@ -63,7 +64,7 @@ header_reached : Reaches record_grammar no_record (record_header ++ newline) (at
 unfolding record_step head_step header_fields
 header_reached =
     line_reached no_record (at due.Regs zeros 0 0 0 [] [] None) (codes "jakstab-record") header_fields
-    (plain_by (codes "jakstab-record") refl) (one (codes "1") [] (plain_by (codes "1") refl) none) refl refl
+    (plain_is (codes "jakstab-record") refl) (one (codes "1") [] (plain_is (codes "1") refl) none) refl refl
 
 regs_reached : (regs : List ℕ) → length regs ≡ 8 → All (λ n. n < 2 ^ 32) regs → Reaches record_grammar (at due.Regs zeros 0 0 0 [] [] None) (regs_line regs) (at due.Flags regs 0 0 0 [] [] None)
 unfolding record_step head_step
@@ -108,7 +109,7 @@ fill_reached : (s : RecordReader) (f : Fill) → is_rest s.head.due ≡ true →
 unfolding record_rest
 fill_reached s f rest on is =
     let fs : List (List ℕ) = hex8 f.at ∷ hex_text f.bytes ∷ [] in
-    let word : IsPlain (codes "fill") = plain_by (codes "fill") refl in
+    let word : IsPlain (codes "fill") = plain_is (codes "fill") refl in
     let plain : ArePlain (hex8 f.at ∷ hex_text f.bytes ∷ []) = one (hex8 f.at) (hex_text f.bytes ∷ []) (word_plain f.at) (one (hex_text f.bytes) [] (bytes_plain f.bytes) none) in
     let read : record_rest s (codes "fill" ∷ hex8 f.at ∷ hex_text f.bytes ∷ []) ≡ Ok (with_record_fill f s.steps s) = rw (fill_read f is) refl in
     let P : List ℕ → Type 0 = λ text. Reaches record_grammar s text (with_record_fill f s.steps s) in
@@ -176,7 +177,7 @@ step_explicit s =
 bare_reached : (r : RecordReader) (s : RunStep) → is_rest r.head.due ≡ true → is_some r.end ≡ false → IsStep s → Reaches record_grammar r (step_line s) (record r { steps = r.steps ++ holding s [] ∷ [] })
 unfolding record_rest step_fields
 bare_reached r s rest on is =
-    let word : IsPlain (codes "step") = plain_by (codes "step") refl in
+    let word : IsPlain (codes "step") = plain_is (codes "step") refl in
     let next : RecordReader = record r { steps = r.steps ++ holding s [] ∷ [] } in
     let read : record_rest r (codes "step" ∷ step_fields s) ≡ Ok next = rw (step_read s is) refl in
     let P : List ℕ → Type 0 = λ text. Reaches record_grammar r text next in
@@ -212,7 +213,7 @@ end_explicit end = ap (λ l. (codes "end" ++ l) ++ newline) (append-nil (space +
 end_reached : (r : RecordReader) (end : EndWord) → is_rest r.head.due ≡ true → is_some r.end ≡ false → Reaches record_grammar r (codes "end " ++ end_word end ++ newline) (record r { end = Some end })
 unfolding record_rest
 end_reached r end rest on =
-    let word : IsPlain (codes "end") = plain_by (codes "end") refl in
+    let word : IsPlain (codes "end") = plain_is (codes "end") refl in
     let plain : ArePlain (end_word end ∷ []) = one (end_word end) [] (end_plain end) none in
     let read : record_rest r (codes "end" ∷ end_word end ∷ []) ≡ Ok (record r { end = Some end }) = rw (end_read end) refl in
     let P : List ℕ → Type 0 = λ text. Reaches record_grammar r text (record r { end = Some end }) in

@@ -1,14 +1,12 @@
 -- The texts of a table's fields are read as what they are of.
 use Rattle.std.proofs.Common.{◌≡◌, ℕ, zero, suc, ◌-◌, ◌/◌, ◌%◌, ◌<◌, ◌≤◌, ◌^◌, ◌==◌, Bool, true, false, List, [], ◌∷◌, ◌++◌, length, map, Option, None, Some, refl, ◌∙◌, ap, arith, append_assoc, nat_lt, decimal, ℤ, pos, negsuc, neg_ℤ, ◌+ℤ◌, ◌≤ℤ◌, ◌<ℤ◌}
-use Rattle.std.specs.Prelude.{codes, nat_le, not, ◌&&◌, int_le, int_lt, is_some, unsigned_abs, option_and_then, option_map, if◌then◌else◌}
+use Rattle.std.specs.Prelude.{codes, nat_le, not, int_le, int_lt, is_some, unsigned_abs, option_and_then, option_map, if◌then◌else◌}
 use Rattle.std.specs.List.{list_all}
 use Rattle.std.specs.Str.{bytes_eq}
-use Rattle.std.specs.Str.Parse.{AllDigits}
 use Rattle.std.proofs.lemmas.Bool.Decides.{nat_tests}
-use Rattle.std.proofs.lemmas.Fmt.{decimal_digit, decimal_is_IsNumeral}
+use Rattle.std.proofs.lemmas.Fmt.{decimal_digit}
 use Rattle.std.proofs.lemmas.Int.{ints}
 use Rattle.std.proofs.lemmas.List.Folds.{list_all-append}
-use Rattle.std.proofs.lemmas.Str.Parse.{digit_from_value}
 use Rattle.memory_map.specs.Image.{Image, IsLoaded}
 use Rattle.memory_map.specs.Range.{USER_LOW, byte_at, maps_all}
 use Rattle.memory_map.proofs.Mappings.{mapped_inside}
@@ -47,6 +45,7 @@ use Rattle.table_check.proofs.FieldsTold.{block_list, dirty_list, fact_list, not
 use Rattle.std.proofs.lemmas.Bool.{and_parts, and_from}
 use Rattle.text_fields.proofs.Cutting.{cut-there, cut-nowhere, lacks}
 use Rattle.text_fields.specs.Lines.{cut_at}
+use Rattle.text_fields.proofs.PlainTexts.{is_plain, plain_word, plain_decimal, digit_above}
 
 -- ---- small facts
 
@@ -91,13 +90,6 @@ all_region p digit stack fs gs block dot one none (Block site size zeroed) =
     (all_both p (codes "b." ++ a ++ codes "." ++ b) (codes ".")
     (all_both p (codes "b." ++ a ++ codes ".") b (all_both p (codes "b." ++ a) (codes ".") (all_both p (codes "b.") a block (all_word p digit site)) dot) (all_word p digit size)) dot) bit
 
-abbrev pub is_plain : List ℕ → Bool
-is_plain field = list_all (nat_lt 32) field
-
-digit_above : (d : ℕ) → d < 16 → nat_lt 32 (hex_digit d) ≡ true
-unfolding hex_digit
-digit_above d small = grind (arith, nat_tests)
-
 digit_no_dot : (d : ℕ) → d < 16 → not (hex_digit d == 46) ≡ true
 unfolding hex_digit
 digit_no_dot d small = grind (arith, nat_tests)
@@ -106,11 +98,8 @@ digit_no_colon : (d : ℕ) → d < 16 → not (hex_digit d == 58) ≡ true
 unfolding hex_digit
 digit_no_colon d small = grind (arith, nat_tests)
 
-pub plain_word : (n : ℕ) → is_plain (hex8 n) ≡ true
-plain_word n = all_word (nat_lt 32) digit_above n
-
 pub plain_region : (r : Region) → is_plain (region_text r) ≡ true
-plain_region r = all_region (nat_lt 32) digit_above refl refl refl refl refl refl refl r
+plain_region r = all_region (nat_lt 32) (λ d small. digit_above d) refl refl refl refl refl refl refl r
 
 pub plain_area : (a : Area) → is_plain (area_text a) ≡ true
 plain_area ImageArea = refl
@@ -124,18 +113,6 @@ plain_value_text (Exact r o) =
     (all_both (nat_lt 32) (codes "e:" ++ region_text r) (codes ":") (all_both (nat_lt 32) (codes "e:") (region_text r) refl (plain_region r)) refl) (plain_word (word_in B32 o))
 plain_value_text (Inside r) = all_both (nat_lt 32) (codes "i:") (region_text r) refl (plain_region r)
 plain_value_text Any = refl
-
-above_space : (b : ℕ) → 32 < b → nat_lt 32 b ≡ true
-above_space b h = grind (arith, nat_tests)
-
-plain_numeral : (ds : List ℕ) → AllDigits 10 ds → is_plain ds ≡ true
-plain_numeral [] all = refl
-plain_numeral (c ∷ cs) all =
-    let range = digit_from_value c all.0 in
-    and_from (nat_lt 32 c) (is_plain cs) (above_space c (omega (arith, range))) (plain_numeral cs all.1)
-
-pub plain_decimal : (n : ℕ) → n < 2 ^ 64 → is_plain (decimal n) ≡ true
-plain_decimal n small = plain_numeral (decimal n) (decimal_is_IsNumeral n small).0.1
 
 pub plain_width : (w : Width) → is_plain (decimal (bytes_of w)) ≡ true
 plain_width B8 = plain_decimal 1 (omega arith)

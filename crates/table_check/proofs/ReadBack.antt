@@ -1,6 +1,6 @@
 -- The text of a table of an image is read line by line, each line as what it was printed of.
-use Rattle.std.proofs.Common.{◌≡◌, ℕ, ◌+◌, ◌-◌, ◌<◌, ◌≤◌, ◌^◌, ◌==◌, Bool, true, false, List, [], ◌∷◌, ◌++◌, length, map, get_or, Option, None, Some, Ok, refl, sym, ◌∙◌, ap, subst, arith, append_assoc, append-nil, decimal, nat_lt, ◌+ℤ◌}
-use Rattle.std.specs.Prelude.{All, Result, codes, flat_map, nat_le, ◌&&◌, int_lt, option_map, slice_get, if◌then◌else◌}
+use Rattle.std.proofs.Common.{◌≡◌, ℕ, ◌+◌, ◌-◌, ◌<◌, ◌≤◌, ◌^◌, ◌==◌, Bool, true, false, List, [], ◌∷◌, ◌++◌, length, map, Option, None, Some, Ok, refl, sym, ◌∙◌, ap, subst, arith, append_assoc, append-nil, decimal, nat_lt, ◌+ℤ◌}
+use Rattle.std.specs.Prelude.{All, Result, codes, flat_map, nat_le, int_lt, option_map, slice_get, if◌then◌else◌}
 use Rattle.std.specs.Option.{option_map_or}
 use Rattle.std.specs.List.{list_all}
 use Rattle.std.specs.declared.cmp.Ordering.{Ordering}
@@ -8,13 +8,12 @@ use Rattle.std.specs.declared.cmp.Ordering.TheVariants.{Less, Equal, Greater}
 use Rattle.std.proofs.lemmas.Bool.Decides.{nat_tests}
 use Rattle.std.proofs.lemmas.Int.{ints}
 use Rattle.std.proofs.lemmas.List.Elements.{All-append, All-head, All-tail}
-use Rattle.std.proofs.lemmas.List.Sums.{AllPass-from_list_all}
 use Rattle.memory_map.specs.Image.{Image, IsLoaded}
 use Rattle.text_fields.specs.Fields.{no_more}
 use Rattle.text_fields.specs.Hex.{hex8}
 use Rattle.text_fields.specs.Line.{newline}
 use Rattle.text_fields.specs.Lines.{CONTENT, COUNT, FIELD, ORDER, fields, demand, or_fault, follows_last, last_of}
-use Rattle.text_fields.proofs.Splitting.{ArePlain, IsPlain, Reaches, fields_spaced, plain_line, reaches_both, reaches_end, reaches_line, reaches_none, spaced, spaced_line}
+use Rattle.text_fields.proofs.Splitting.{ArePlain, Reaches, fields_spaced, plain_line, reaches_both, reaches_end, reaches_line, reaches_none, spaced, spaced_line}
 use Rattle.text_fields.proofs.Splitting as plain
 use Rattle.bounded_values.specs.declared.value.Bounded.{Bounded}
 use Rattle.bounded_values.specs.BoundedLaws.{bounded}
@@ -42,12 +41,13 @@ use Rattle.table_check.specs.Reading.{TableSoFar, after_state, block_step, close
 use Rattle.table_check.specs.Text.{area_text, block_line, count_text, dirty_line, end_line, fact_line, flags_line, header_text, k_line, note_line, offset_text, open_line, region_text, regs_line, row_line, row_text, state_text, table_text, truth_code, value_text}
 use Rattle.table_check.specs.TextLaws.{FitsRow, FitsState, IsStateOf, TablesAreReadBack, fits_count, fits_dirty, fits_fact, fits_note, is_above, is_made, is_word}
 use Rattle.table_check.proofs.FieldsTold.{block_list, dirty_list, fact_list, note_list}
-use Rattle.table_check.proofs.FieldsRead.{block_back, dirty_back, fact_back, flags_back, is_plain, k_back, note_back, plain_area, plain_count, plain_decimal, plain_region, plain_truths, plain_value_text, plain_width, plain_word, regs_back}
+use Rattle.table_check.proofs.FieldsRead.{block_back, dirty_back, fact_back, flags_back, k_back, note_back, plain_area, plain_count, plain_region, plain_truths, plain_value_text, plain_width, regs_back}
 use Rattle.table_check.proofs.Told.{block_text, dirty_text, end_text, fact_text, flags_text, k_text, note_line-none, note_text, open_text, regs_text, row_head}
 use Rattle.std.proofs.lemmas.Bool.{and_parts, and_from}
 use Rattle.text_fields.proofs.LastOnes.{last_of_more}
 use Rattle.text_fields.proofs.FieldTexts.{then_given, only_word_read, number_written}
 use Rattle.text_fields.specs.Decimal.{decimal_is}
+use Rattle.text_fields.proofs.PlainTexts.{is_plain, plain_is, plain_word, plain_decimal}
 
 -- ---- lists that go on from an element
 
@@ -159,12 +159,6 @@ meets image p e =
     }
 
 -- ---- lines
-
-plain_is : (field : List ℕ) → is_plain field ≡ true → IsPlain field
-plain_is field e k d below = less 32 (get_or field k d) (AllPass-from_list_all (nat_lt 32) field e k d below)
-  where
-    less : (a b : ℕ) → nat_lt a b ≡ true → a < b
-    less a b h = grind (arith, nat_tests)
 
 are_plain : (fs : List (List ℕ)) → list_all is_plain fs ≡ true → ArePlain fs
 are_plain [] e = plain.none

@@ -6,4 +6,5 @@ pub mod Found
 pub mod HexFacts
 pub mod LastOnes
 pub mod LineFacts
+pub mod PlainTexts
 pub mod Splitting
