@@ -2,6 +2,8 @@ pub mod Lines
 pub mod SameLines
 pub mod Covering
 pub mod Printing
+pub mod Making
+pub mod Demos
 pub mod Saying
 pub mod Finding
 pub mod Starting

@@ -18,6 +18,7 @@ use Rattle.jakstab_core.specs.Inputs.{ShelfCall, Origin, File, Made, Kind, Image
 use Rattle.jakstab_core.specs.Tasks.{IsOutput, IsStartRefused, Covers}
 use Rattle.jakstab_core.specs.Says.{Call, Gain, Says, OfCommand, IsDue, IsCommandRefused, IsStartless, IsRefused, IsUsageExact, IsFaultless, IsComplete, IsNoted, Answers}
 use Rattle.jakstab_core.specs.Due.{IsDelivered, OrMemory}
+use Rattle.jakstab_core.proofs.Making.{IsMadeFine, AreMadeFine, made_fine}
 use Rattle.jakstab_core.proofs.Covering.{text_covers}
 use Rattle.jakstab_core.proofs.Tabling.{check_covers}
 
@@ -159,23 +160,24 @@ module _ (r : ShelfCall) where
   held_short limit kind (File name) h long = not_longer r.held h.1.contents limit name h.0 h.1.tells h.1.there h.2 long
   held_short limit kind (Made made) h long = long
 
-  held_faultless : (limit : ℕ) (kind : Kind) (origin : Origin) → IsHeldFrom r limit kind origin → (bytes : List ℕ) → IsFrom r.held limit origin bytes → (status : Status) → IsFaulty kind bytes status → ⊥
-  held_faultless limit kind (File name) h bytes whole status faulty =
+  held_faultless : (limit : ℕ) (kind : Kind) (origin : Origin) → IsHeldFrom r limit kind origin → IsMadeFine kind origin → (bytes : List ℕ) → IsFrom r.held limit origin bytes → (status : Status) → IsFaulty kind bytes status
+      → ⊥
+  held_faultless limit kind (File name) h fine bytes whole status faulty =
       let P : List ℕ → Type 0 = λ l. IsFaulty kind l status in
       h.4 status (subst P (held_is r.held h.1.contents limit name h.0 bytes h.1.tells h.1.there whole) faulty)
-  held_faultless limit kind (Made made) h bytes whole status faulty =
-      let P : List ℕ → Type 0 = λ l. IsFaulty kind l status in h status (subst P whole faulty)
+  held_faultless limit kind (Made made) h fine bytes whole status faulty =
+      let P : List ℕ → Type 0 = λ l. IsFaulty kind l status in fine status (subst P whole faulty)
 
-  held_not_refused : (sources : List Source) → AreHeld r sources → (status : Status) → AreRefused r sources status → ⊥
-  held_not_refused [] h status why = why
-  held_not_refused (s ∷ rest) h status (inl (inl (inl why))) = held_read (limit_of s.input) s.kind s.origin h.0 why.1
-  held_not_refused (s ∷ rest) h status (inl (inl (inr why))) = held_short (limit_of s.input) s.kind s.origin h.0 why.1
-  held_not_refused (s ∷ rest) h status (inl (inr why)) = held_faultless (limit_of s.input) s.kind s.origin h.0 why.0 why.1 status why.2
-  held_not_refused (s ∷ rest) h status (inr why) = held_not_refused rest h.1 status why.1
+  held_not_refused : (sources : List Source) → AreHeld r sources → AreMadeFine sources → (status : Status) → AreRefused r sources status → ⊥
+  held_not_refused [] h fine status why = why
+  held_not_refused (s ∷ rest) h fine status (inl (inl (inl why))) = held_read (limit_of s.input) s.kind s.origin h.0 why.1
+  held_not_refused (s ∷ rest) h fine status (inl (inl (inr why))) = held_short (limit_of s.input) s.kind s.origin h.0 why.1
+  held_not_refused (s ∷ rest) h fine status (inl (inr why)) = held_faultless (limit_of s.input) s.kind s.origin h.0 fine.0 why.0 why.1 status why.2
+  held_not_refused (s ∷ rest) h fine status (inr why) = held_not_refused rest h.1 fine.1 status why.1
 
 module _ (a : Call) (out : Gain) (f : IsFaultless a out) where
   neither : (status : Status) → IsCommandRefused a.shelf f.command status → ⊥
-  neither status (inl why) = held_not_refused a.shelf (sources_of f.command) f.inputs status why
+  neither status (inl why) = held_not_refused a.shelf (sources_of f.command) f.inputs (made_fine a.words f.command f.accepted) status why
   neither status (inr why) = f.starts status why
 
   not_refused : (command : Command) (status : Status) → command ≡ f.command → IsCommandRefused a.shelf command status → ⊥

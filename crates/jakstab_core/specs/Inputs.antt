@@ -205,11 +205,11 @@ pub record IsHeld (held : Option Contents) (name bytes : List ℕ) : Type 0 wher
   pub tells : held ≡ Some contents
   pub there : contents name ≡ Some bytes
 
--- what is held of an input is within its limit and not faulty, and no read of it failed
+-- what is held of an input is within its limit and not faulty, and no read of it failed; what the command makes is there
 abbrev pub IsHeldFrom : ShelfCall → ℕ → Kind → Origin → Type 0
 IsHeldFrom r limit kind (File name) =
     (bytes : List ℕ) × IsHeld r.held name bytes × (length bytes ≤ limit) × (IsUnread r (File name) → ⊥) × ((status : Status) → IsFaulty kind bytes status → ⊥)
-IsHeldFrom r limit kind (Made made) = (status : Status) → IsFaulty kind made status → ⊥
+IsHeldFrom r limit kind (Made made) = ⊤
 
 abbrev pub AreHeld : ShelfCall → List Source → Type 0
 AreHeld r [] = ⊤

@@ -49,7 +49,7 @@ mod top;
 mod work;
 
 pub use flow_worklist::{Gate, OpenGate};
-pub use laws::replays_find_edges;
+pub use laws::{demos_are_done, replays_find_edges};
 pub use status::{Input, Status};
 pub use tables::table_of;
 pub use top::jakstab;

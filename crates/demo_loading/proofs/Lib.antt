@@ -1,0 +1,5 @@
+mod Words
+mod Fields
+mod Ranges
+pub mod Images
+pub mod Stubs
