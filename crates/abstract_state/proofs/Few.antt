@@ -203,3 +203,14 @@ module _ {D : Type 0} (d : Values D) where
           regs = fold (λ g r. with_register g r (w (Register r) (register g r))) s.regs register_numbers;
           parts = record (s.parts) { facts = filter (λ f. not (d.rank f.value == 0)) (map (λ (f : Fact D). record f { value = w (holder_of f) f.value }) s.parts.facts) };
         }) same
+
+    -- where nothing was seen, nothing changes
+    pub unseen-widened : (s : Known D) → 0 < k → IsWellState d s → widened_state d k [] s ≡ s
+    unfolding widened_state register with_register
+    unseen-widened s some well =
+        let same : widened_value d k [] ≡ (λ h v. v) = λ i h v. value-stays [] h v (counted-stays [] h v some) i in
+        ap (λ (w : Holder → D → D). record s {
+          regs = fold (λ g r. with_register g r (w (Register r) (register g r))) s.regs register_numbers;
+          parts = record (s.parts) { facts = widened_facts d k [] s.parts.facts };
+        }) same
+        ∙ ap (λ (facts : List (Fact D)). record s { parts = record (s.parts) { facts = facts } }) (unseen-facts s.parts.blocks s.parts.facts some (well.parts).facts)

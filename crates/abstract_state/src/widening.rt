@@ -54,7 +54,6 @@ fn put_all<D: Domain>(
     Ok(())
 }
 
-// Where nothing was seen, nothing changes.
 fn widened_parts<D: Domain>(
     mut parts: Parts<D>,
     k: u32,
@@ -63,9 +62,6 @@ fn widened_parts<D: Domain>(
     requires { IsWell (values_of D.Domain.own D.eq) parts }
     ensures { IfOk result (λ widened. widened ≡ record parts { facts = widened_facts (values_of D.Domain.own D.eq) k seen.now parts.facts }) }
 {
-    if 0 < k && seen.is_empty() {
-        return Ok(parts);
-    }
     let facts = parts.copy_facts()?;
     put_all(&mut parts, k, seen, &facts)?;
     Ok(parts)
@@ -74,11 +70,15 @@ fn widened_parts<D: Domain>(
 impl<D: Domain> State<D> {
     /// This state made to stand for more. Each register and each fact by itself: its value is raised until it was seen there,
     /// has rank 0, or has a rank of which fewer than `k` values were seen there. A fact that is raised to rank 0 goes. The answer is well.
+    /// Where nothing was seen, nothing changes.
     #[tactic(auto, unfolding(crate::specs::Widening::widened_state))]
     pub fn widen(self, k: u32, seen: &Seen<D>) -> Result<State<D>, NoMemory>
         ensures widened { IfOk result (λ s. s ≡ widened_state (values_of D.Domain.own D.eq) k seen.now self) }
         ensures well { IfOk result (IsWellState (values_of D.Domain.own D.eq)) }
     {
+        if 0 < k && seen.is_empty() {
+            return Ok(self);
+        }
         let State {
             regs,
             flags,

@@ -28,7 +28,10 @@ fn has_other<D: Domain>(
     }
 }
 
-// Holders at which the rows at these places have numbers, and one has another than a state.
+// An index goes by so many holders more at a time; where they do not tell rows apart, it is parted again.
+const MOST: usize = 2;
+
+// Holders at which the rows at these places have numbers, and one has another than a state; some of them.
 fn parting_from<D: Domain>(
     alloc: Global,
     rows: &[Row<D>],
@@ -44,14 +47,14 @@ fn parting_from<D: Domain>(
         let parted = places
             .iter()
             .any(|place| has_other(rows, numbers, *place, holder, s));
-        if told && parted {
+        if told && parted && found.len() < MOST {
             found.push(holder)?;
         }
     }
     Ok(found)
 }
 
-/// Holders at which the rows at these places have numbers, not all the same. An index may go by any holders; these tell its rows apart.
+/// Holders at which the rows at these places have numbers, not all the same; two at most. An index may go by any holders; these tell its rows apart.
 /// Refuses want of memory alone.
 pub fn parting<D: Domain>(
     alloc: Global,

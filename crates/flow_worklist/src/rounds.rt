@@ -13,13 +13,13 @@ use bit_words::NoMemory;
 use domain_laws::Domain;
 use image_loader::Image;
 use std::alloc::Global;
-use std::thread::{Threads, map_chunks};
+use std::thread::{Threads, available_parallelism, map_chunks};
 use stub_file::Stubs;
 
 /// How many rows a round of `explore` has at most.
 pub const ROUND: u32 = 4_096;
 
-/// How many rows of a round of `explore` a thread expands one after another.
+/// How many rows a piece of a round of `explore` has, which a thread expands one after another.
 pub const PIECE: u32 = 64;
 
 // What is explored, and how its rows are expanded.
@@ -32,7 +32,26 @@ struct Rounds<'a, R: Threads + Sync, G: Gate> {
     limits: Limits,
     round: u32,
     piece: u32,
+    threads: usize,
     gate: &'a G,
+}
+
+// How many threads expand a round at most: one for each processor, two at least.
+fn thread_count<R: Threads>(rt: &R) -> usize {
+    match available_parallelism(rt) {
+        Ok(count) => count.get().max(2),
+        Err(_) => 2,
+    }
+}
+
+// How many rows of a round a thread expands: whole pieces, as many as leave no piece to more than so many threads.
+fn rows_each(rows: usize, piece: usize, threads: usize) -> usize
+    requires { 0 < piece }
+    ensures { 0 < result }
+{
+    let pieces = rows.div_ceil(piece);
+    let each = pieces.div_ceil(threads.max(1));
+    piece.saturating_mul(each.max(1))
 }
 
 // The expansions of rows, one after another; the first has the number `from`.
@@ -73,7 +92,7 @@ fn in_order<D: Domain>(
     Ok(posts)
 }
 
-// The expansions of rows, in order, each piece of them in a thread of its own; the first has the number `from`.
+// The expansions of rows, in order, each `piece` of them in a thread of its own; the first has the number `from`.
 fn posts_of<R: Threads + Sync, D: Domain, G: Gate>(
     rt: &R,
     alloc: Global,
@@ -172,7 +191,7 @@ impl<R: Threads + Sync, G: Gate> Rounds<'_, R, G> {
             self.image,
             self.stubs,
             self.limits.k,
-            self.piece as usize,
+            rows_each(round.len(), self.piece as usize, self.threads),
             self.gate,
             exploration,
             from,
@@ -210,8 +229,8 @@ impl<R: Threads + Sync, G: Gate> Rounds<'_, R, G> {
     }
 }
 
-/// The log of an image with stubs over a domain, of which the first `budget` rows are expanded, `round` of them at most at a time, by threads that
-/// take `piece` of them each and pass the gate before each row. Neither these numbers nor the gate change the log. It has fewer than 2^32 rows.
+/// The log of an image with stubs over a domain, of which the first `budget` rows are expanded, `round` of them at most at a time, in pieces of
+/// `piece` rows that are divided among threads, which pass the gate before each row. Neither these numbers nor the gate change the log. It has fewer than 2^32 rows.
 /// Refuses want of memory alone.
 pub fn explore_in<R: Threads + Sync, D: Domain, G: Gate>(
     rt: &R,
@@ -236,6 +255,7 @@ pub fn explore_in<R: Threads + Sync, D: Domain, G: Gate>(
         limits,
         round,
         piece,
+        threads: thread_count(rt),
         gate,
     };
     let exploration = rounds.explored()?;

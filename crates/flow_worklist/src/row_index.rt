@@ -1,4 +1,4 @@
-ghost use Rattle.std.specs.Prelude.{◌≡◌, [], ◌++◌, Any, false, Contains, IfOk, IfSome, List, OnOk, Some, ℕ, option_copied, slice_get};
+ghost use Rattle.std.specs.Prelude.{◌≡◌, [], ◌++◌, Any, false, Contains, IfOk, IfSome, List, OnOk, Some, ℕ, length, option_copied, slice_get};
 ghost use Rattle.std.specs.List.{list_any};
 ghost use Rattle.domain_laws.specs.Made.{values_of};
 ghost use Rattle.abstract_state.specs.State.{Known};
@@ -24,20 +24,25 @@ pub struct Group {
 }
 
 /// Where the rows of a location stand among its rows: by the number of a group, and under the numbers that their states have there; under
-/// `Unclear` stand all rows of the group. The last group, of the number 0, has no holders, and the rows that no other one has.
+/// `Unclear` stand all rows of the group. Rows that no group has come into a last one, which has no holders.
 #[derive(Drop)]
 pub struct RowIndex {
     pub groups: Vec<Group>,
     pub places: IndexMap<(usize, Told), Vec<usize>>,
-    // How many rows the last group has when another is made.
-    pub limit: usize,
+    // A group, and the numbers there that the newest row shares with many others.
+    pub crowded: Option<(usize, u64)>,
 }
 
-// How many rows are walked.
-const WALKED: usize = 32;
+// So many rows of a group with the same numbers, or a multiple of that, are many. By the newest so many the holders of another group are chosen.
+const CROWD: usize = 16;
 
-// By the newest so many rows of the last group the holders of another are chosen.
-const NEWEST: usize = 16;
+fn crowd_of(group: usize, digest: u64, count: usize) -> Option<(usize, u64)> {
+    if count % CROWD == 0 {
+        Some((group, digest))
+    } else {
+        None
+    }
+}
 
 // Whether the row of a number covers a state.
 fn covers_at<D: Domain>(rows: &[Row<D>], s: &State<D>, number: usize) -> bool
@@ -99,7 +104,7 @@ impl RowIndex {
         RowIndex {
             groups: Vec::new(alloc),
             places: IndexMap::new(alloc),
-            limit: WALKED,
+            crowded: None,
         }
     }
 
@@ -162,16 +167,18 @@ impl RowIndex {
         }
     }
 
-    // One place more under a key.
-    fn put(&mut self, group: usize, told: Told, place: usize) -> Result<(), NoMemory>
+    // One place more under a key. Answers how many there are.
+    fn put(&mut self, group: usize, told: Told, place: usize) -> Result<usize, NoMemory>
+        ensures count { IfOk result (λ n. n ≡ length (places_at self.new (group, told))) }
         ensures groups { self.new.groups ≡ self.old.groups }
         ensures has { OnOk result (Contains (places_at self.new (group, told)) place) }
         ensures kept { OnOk result ((key : ℕ × Told) (p : ℕ) → Contains (places_at self.old key) p → Contains (places_at self.new key) p) }
     {
         let mut places = self.take(group, told);
         places.push(place)?;
+        let count = places.len();
         self.places.insert((group, told), places)?;
-        Ok(())
+        Ok(count)
     }
 
     // One place more in a group.
@@ -181,8 +188,9 @@ impl RowIndex {
         ensures by_group { OnOk result (Contains (places_at self.new (group, Told.Unclear)) place) }
         ensures kept { OnOk result ((key : ℕ × Told) (p : ℕ) → Contains (places_at self.old key) p → Contains (places_at self.new key) p) }
     {
-        self.put(group, Told::Numbers(digest), place)?;
+        let count = self.put(group, Told::Numbers(digest), place)?;
         self.put(group, Told::Unclear, place)?;
+        self.crowded = crowd_of(group, digest, count);
         Ok(())
     }
 
@@ -216,18 +224,54 @@ impl RowIndex {
         }
     }
 
-    /// A group more, where the last has many rows: by holders at which the newest of these have numbers that differ.
+    // The holders of a group; none where there is no such group.
+    fn holders_of(&self, group: usize) -> Result<Vec<Holder>, NoMemory> {
+        let mut holders = Vec::new(*self.groups.allocator());
+        for other in &self.groups {
+            if other.number == group {
+                holders.extend_from_slice(&other.holders)?;
+            }
+        }
+        Ok(holders)
+    }
+
+    // The holders of another group, for many rows of the same numbers: those of their group, and some at which the newest have numbers that differ.
+    fn crowd_holders<D: Domain>(
+        &self,
+        rows: &[Row<D>],
+        numbers: &[usize],
+        group: usize,
+        digest: u64,
+    ) -> Result<Vec<Holder>, NoMemory> {
+        let alloc = *self.groups.allocator();
+        let crowd = self.places_at(group, Told::Numbers(digest));
+        let newest = &crowd[crowd.len().saturating_sub(CROWD)..];
+        let mut more = parting(alloc, rows, numbers, newest)?;
+        if more.is_empty() {
+            return Ok(more);
+        }
+        let mut holders = self.holders_of(group)?;
+        holders.append(&mut more)?;
+        Ok(holders)
+    }
+
+    // The same, where many rows share the newest one's numbers; else none.
+    fn more_holders<D: Domain>(
+        &self,
+        rows: &[Row<D>],
+        numbers: &[usize],
+    ) -> Result<Vec<Holder>, NoMemory> {
+        match self.crowded {
+            Some((group, digest)) => self.crowd_holders(rows, numbers, group, digest),
+            None => Ok(Vec::new(*self.groups.allocator())),
+        }
+    }
+
+    /// A group more, where many rows of one share the newest one's numbers.
     pub fn part<D: Domain>(&mut self, rows: &[Row<D>], numbers: &[usize]) -> Result<(), NoMemory>
         ensures { OnOk result ((p : ℕ) (t : Known D) → HasPlace (values_of D.Domain.own D.eq) self.old p t → HasPlace (values_of D.Domain.own D.eq) self.new p t) }
     {
-        let alloc = *self.groups.allocator();
-        let rest = self.places_at(0, Told::Unclear);
-        let count = rest.len();
-        if count < self.limit {
-            return Ok(());
-        }
-        let holders = parting(alloc, rows, numbers, &rest[count.saturating_sub(NEWEST)..])?;
-        self.limit = count.saturating_add(WALKED);
+        let holders = self.more_holders(rows, numbers)?;
         self.push_group(holders)
     }
 
@@ -261,6 +305,21 @@ fn add_nth<D: Domain>(
     }
 }
 
+// An index without a row, with a group for the rows of these numbers.
+fn parted<D: Domain>(
+    alloc: Global,
+    rows: &[Row<D>],
+    numbers: &[usize],
+) -> Result<RowIndex, NoMemory> {
+    let mut newest = Vec::new(alloc);
+    for place in numbers.len().saturating_sub(CROWD)..numbers.len() {
+        newest.push(place)?;
+    }
+    let mut index = RowIndex::new(alloc);
+    index.push_group(parting(alloc, rows, numbers, &newest)?)?;
+    Ok(index)
+}
+
 /// An index of the rows of these numbers, by their places among them.
 pub fn index_of<D: Domain>(
     alloc: Global,
@@ -269,7 +328,7 @@ pub fn index_of<D: Domain>(
 ) -> Result<RowIndex, NoMemory>
     ensures { IfOk result (λ index. (place : ℕ) (row : LogRow (Known D)) → row_nth rows.now numbers.now place ≡ Some row → HasPlace (values_of D.Domain.own D.eq) index place row.state) }
 {
-    let mut index = RowIndex::new(alloc);
+    let mut index = parted(alloc, rows, numbers)?;
     for place in 0..numbers.len() {
         add_nth(&mut index, rows, numbers, place)?;
     }
