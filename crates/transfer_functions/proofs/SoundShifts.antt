@@ -102,8 +102,8 @@ or_none B8 x less = or_zero_r (cut B8 x) ∙ cut_fit B8 x less
 or_none B16 x less = or_zero_r (cut B16 x) ∙ cut_fit B16 x less
 or_none B32 x less = or_zero_r (cut B32 x) ∙ cut_fit B32 x less
 
-none_shifted : (op other : Op) (w : Width) (x y : ℕ) → IsJoining op other → x < 2 ^ bits_of w → shifts_of op other w x y 0 ≡ x
-none_shifted op other w x y own less = elim own [
+shifts_of_none : (op other : Op) (w : Width) (x y : ℕ) → IsJoining op other → x < 2 ^ bits_of w → shifts_of op other w x y 0 ≡ x
+shifts_of_none op other w x y own less = elim own [
   | inl e ↦
       ap (λ o. shifts_of o other w x y 0) e.0 ∙ ap (λ o. shifts_of Shl o w x y 0) e.1
       ∙ ap (λ k. apply_op Or w (apply_op Shl w x 0) k) (gone_right w y) ∙ ap (λ k. apply_op Or w k 0) (unmoved Shl w x refl less) ∙ or_none w x less
@@ -119,7 +119,7 @@ some_width B32 = refl
 
 -- SHLD and SHRD by 0 give their operand
 none_doubled : (op other : Op) (w : Width) (x y : ℕ) (choice : Choice) → IsJoining op other → x < 2 ^ bits_of w → double_result op other w x y 0 choice ≡ x
-none_doubled op other w x y choice own less = ap (λ b. cond b (shifts_of op other w x y 0) (cut w choice.eax)) (some_width w) ∙ none_shifted op other w x y own less
+none_doubled op other w x y choice own less = ap (λ b. cond b (shifts_of op other w x y 0) (cut w choice.eax)) (some_width w) ∙ shifts_of_none op other w x y own less
 
 pub rest_fits : (w : Width) (n : ℕ) → bits_of w - n < 2 ^ bits_of w
 rest_fits B8 n = omega arith
