@@ -3,6 +3,7 @@ use crate::calls::{
     Content, File, SURE, call, call_over, changed, check_ended, file_with, shelf_of,
 };
 use crate::run_tests::{CODE, OTHER_RECORD, RECORD, START, UNALIGNED_RECORD, UNALIGNED_START};
+use crate::table_tests::{MISCOUNTED, NO_ROW, ONE_ROW};
 use crate::tests::{OVERLAP, SELF_JUMP};
 use crate::{Input, Status};
 use demo_images::form_p;
@@ -125,6 +126,8 @@ const TOLD: File = ("a", Content::Text(OVERLAP));
 
 const RECORDED: File = ("r", Content::Text(RECORD));
 
+const TABLE: File = ("t", Content::Text(ONE_ROW));
+
 const LISTED: &str = "\
 jakstab-list 1
 format elf32
@@ -146,7 +149,7 @@ type Command = (
     &'static str,
 );
 
-static COMMANDS: [Command; 9] = [
+static COMMANDS: [Command; 12] = [
     (
         &["recover", "i"],
         &[IMAGE],
@@ -202,6 +205,27 @@ static COMMANDS: [Command; 9] = [
         &[Input::Image, Input::First, Input::Second],
         Status::VerdictNo,
         "notanedge 0 08048000 08048001\n",
+    ),
+    (
+        &["table", "--stubs", "s", "i"],
+        &[IMAGE, STUBS],
+        &[Input::Image, Input::Stubs],
+        Status::Done,
+        ONE_ROW,
+    ),
+    (
+        &["check", "i", "t", "--stubs", "s"],
+        &[IMAGE, STUBS, TABLE],
+        &[Input::Image, Input::Stubs, Input::First],
+        Status::Done,
+        "yes 1 1\n",
+    ),
+    (
+        &["check", "i", "t"],
+        &[IMAGE, ("t", Content::Text(NO_ROW))],
+        &[Input::Image, Input::First],
+        Status::VerdictNo,
+        "no 0 1\n",
     ),
     (&["demo", "1"], &[], &[], Status::Done, SUMMARY),
 ];
@@ -349,6 +373,10 @@ const RUN: &[&str] = &["run", "i", "t", "10", "--stubs", "s"];
 
 const REPLAY: &[&str] = &["replay", "i", "a", "r", "--stubs", "s"];
 
+const TABULATE: &[&str] = &["table", "i", "--stubs", "s"];
+
+const CHECK: &[&str] = &["check", "i", "t", "--stubs", "s"];
+
 const USAGE: &str = "jakstab: usage\n";
 
 const NO_IMAGE: &str = "jakstab: cannot read image\n";
@@ -360,7 +388,7 @@ const NO_FORMAT: &str = "jakstab: image refused 200\n";
 const NO_TOML: &str = "jakstab: stubs refused 1\n";
 
 // No file is there where the words are refused.
-static USAGES: [Refusal; 8] = [
+static USAGES: [Refusal; 11] = [
     (&[], &[], 0, Status::Usage, USAGE),
     (&["recover", "--stubs", "s"], &[], 0, Status::Usage, USAGE),
     (&["list", "--stubs", "i"], &[], 0, Status::Usage, USAGE),
@@ -373,22 +401,69 @@ static USAGES: [Refusal; 8] = [
     ),
     (&["run", "i", "t", "1000001"], &[], 0, Status::Usage, USAGE),
     (&["replay", "i", "a"], &[], 0, Status::Usage, USAGE),
+    (
+        &["table", "i", "--domain", "flat"],
+        &[],
+        0,
+        Status::Usage,
+        USAGE,
+    ),
+    (&["check", "i"], &[], 0, Status::Usage, USAGE),
+    (
+        &["check", "i", "t", "--k", "4"],
+        &[],
+        0,
+        Status::Usage,
+        USAGE,
+    ),
     (&["demo", "2001"], &[], 0, Status::Usage, USAGE),
     (&["demo", "1", "--stubs", "s"], &[], 0, Status::Usage, USAGE),
 ];
 
 // The image is read and tried before the stub file is read, and that is tried before any further input is read.
-static FIRST_REFUSALS: [Refusal; 18] = [
+static FIRST_REFUSALS: [Refusal; 26] = [
     (RECOVER, &[], 1, Status::ReadFault(Input::Image), NO_IMAGE),
     (LIST, &[], 1, Status::ReadFault(Input::Image), NO_IMAGE),
     (DECODE, &[], 1, Status::ReadFault(Input::Image), NO_IMAGE),
     (RUN, &[], 1, Status::ReadFault(Input::Image), NO_IMAGE),
     (REPLAY, &[], 1, Status::ReadFault(Input::Image), NO_IMAGE),
+    (TABULATE, &[], 1, Status::ReadFault(Input::Image), NO_IMAGE),
+    (CHECK, &[], 1, Status::ReadFault(Input::Image), NO_IMAGE),
     (RECOVER, &[EMPTY], 1, Status::ImageRefused(200), NO_FORMAT),
     (LIST, &[EMPTY], 1, Status::ImageRefused(200), NO_FORMAT),
     (DECODE, &[EMPTY], 1, Status::ImageRefused(200), NO_FORMAT),
     (RUN, &[EMPTY], 1, Status::ImageRefused(200), NO_FORMAT),
     (REPLAY, &[EMPTY], 1, Status::ImageRefused(200), NO_FORMAT),
+    (TABULATE, &[EMPTY], 1, Status::ImageRefused(200), NO_FORMAT),
+    (CHECK, &[EMPTY], 1, Status::ImageRefused(200), NO_FORMAT),
+    (
+        TABULATE,
+        &[IMAGE],
+        2,
+        Status::ReadFault(Input::Stubs),
+        NO_STUBS,
+    ),
+    (
+        CHECK,
+        &[IMAGE, TABLE],
+        2,
+        Status::ReadFault(Input::Stubs),
+        NO_STUBS,
+    ),
+    (
+        TABULATE,
+        &[IMAGE, BAD_STUBS],
+        2,
+        Status::StubsRefused(1),
+        NO_TOML,
+    ),
+    (
+        CHECK,
+        &[IMAGE, BAD_STUBS],
+        2,
+        Status::StubsRefused(1),
+        NO_TOML,
+    ),
     (
         RECOVER,
         &[IMAGE],
@@ -456,7 +531,7 @@ end 1 1 0
 x";
 
 // Each further input is tried before the next one is read, and then the start.
-static LATER_REFUSALS: [Refusal; 11] = [
+static LATER_REFUSALS: [Refusal; 14] = [
     (
         RUN,
         &[MOVING, STUBS],
@@ -491,6 +566,27 @@ static LATER_REFUSALS: [Refusal; 11] = [
         3,
         Status::InputRefused { line: 2, kind: 3 },
         "jakstab: input refused 2 3\n",
+    ),
+    (
+        CHECK,
+        &[IMAGE, STUBS],
+        3,
+        Status::ReadFault(Input::First),
+        "jakstab: cannot read first\n",
+    ),
+    (
+        CHECK,
+        &[IMAGE, STUBS, ("t", Content::Text(START))],
+        3,
+        Status::InputRefused { line: 1, kind: 1 },
+        "jakstab: input refused 1 1\n",
+    ),
+    (
+        CHECK,
+        &[IMAGE, STUBS, ("t", Content::Text(MISCOUNTED))],
+        3,
+        Status::InputRefused { line: 6, kind: 5 },
+        "jakstab: input refused 6 5\n",
     ),
     (
         REPLAY_ALONE,
@@ -679,7 +775,7 @@ type Noting = (
     &'static str,
 );
 
-static NOTINGS: [Noting; 8] = [
+static NOTINGS: [Noting; 9] = [
     (&[], &[], 0, Status::Usage, USAGE),
     (RECOVER, &[], 0, Status::ReadFault(Input::Image), NO_IMAGE),
     (RECOVER, &[EMPTY], 0, Status::ImageRefused(200), NO_FORMAT),
@@ -705,6 +801,13 @@ static NOTINGS: [Noting; 8] = [
         "jakstab: cannot write\n",
     ),
     (RECOVER, &[IMAGE, STUBS], 0, Status::Done, ""),
+    (
+        CHECK,
+        &[IMAGE, STUBS, ("t", Content::Text(NO_ROW))],
+        0,
+        Status::VerdictNo,
+        "",
+    ),
     (
         REPLAY,
         &[MOVING, STUBS, TOLD, ("r", Content::Text(OTHER_RECORD))],

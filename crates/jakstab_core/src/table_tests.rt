@@ -1,10 +1,16 @@
-use crate::calls::{Case, Content, File, check_case};
+use crate::calls::{Case, Content, Ended, File, check_case, file_with, sink, words_of};
+use crate::sample_files::{DAYS, GREET, square};
 use crate::tables::{check_output, table_text};
-use crate::{Input, OpenGate, Status};
+use crate::tests::STUBS;
+use crate::{Input, OpenGate, Status, jakstab};
 use demo_images::demo;
 use flow_worklist::Limits;
 use image_loader::load;
+use outside_io::{MemoryShelf, MemorySink};
+use std::alloc::Global;
+use std::process::Abort;
 use std::test::Fail;
+use std::thread::Threads;
 use stub_file::read_stubs;
 use table_check::{print_table, read_table};
 
@@ -15,7 +21,7 @@ const JE_NEXT: File = ("i", Content::Code(b"\x74\x00\xF4"));
 const JUMP_EAX: File = ("i", Content::Code(b"\xFF\xE0"));
 
 // The table of the jump to itself; the other two have its row too.
-const ONE_ROW: &str = "\
+pub const ONE_ROW: &str = "\
 jakstab-table 1
 k 32
 row 08048000
@@ -24,7 +30,7 @@ flags ??????0
 end 1
 ";
 
-const NO_ROW: &str = "\
+pub const NO_ROW: &str = "\
 jakstab-table 1
 k 32
 end 0
@@ -40,7 +46,7 @@ flags ??????0
 end 1
 ";
 
-const MISCOUNTED: &str = "\
+pub const MISCOUNTED: &str = "\
 jakstab-table 1
 k 32
 row 08048000
@@ -187,6 +193,58 @@ fn tables_are_checked(rt: HostRuntime) -> Result<(), Fail> {
         check_case(&rt, alloc, case)?;
     }
     Ok(())
+}
+
+// The most bytes of a table here.
+const ROOM: usize = 262_144;
+
+// Does a command over a shelf, with room for a long table.
+fn call_long<R: Threads + Sync>(
+    rt: &R,
+    alloc: Global,
+    words: &[&str],
+    shelf: &mut MemoryShelf,
+) -> Result<Ended, Fail> {
+    let words = words_of(alloc, words)?;
+    let mut out = MemorySink::new(alloc, ROOM, ROOM, Vec::new(alloc))?;
+    let mut note = sink(alloc, 4096, Vec::new(alloc))?;
+    let status = jakstab(rt, alloc, &words, shelf, &mut out, &mut note, &OpenGate);
+    Ok(Ended { status, out, note })
+}
+
+// What `check` writes of the table that `table` prints of a file is yes, and ends so.
+fn check_round<R: Abort + Threads + Sync>(
+    rt: &R,
+    alloc: Global,
+    file: &[u8],
+    stubs: &str,
+    end: &str,
+) -> Result<(), Fail> {
+    let mut shelf = MemoryShelf::new(alloc, Vec::new(alloc));
+    shelf.put("i", Vec::from_slice(alloc, file)?)?;
+    shelf.put("s", Vec::from_slice(alloc, stubs.as_bytes())?)?;
+    let told = call_long(rt, alloc, &["table", "i", "--stubs", "s"], &mut shelf)?;
+    assert_eq!(rt; told.status, Status::Done, "{end}");
+    shelf.put("t", Vec::from_slice(alloc, told.out.written())?)?;
+    let ended = call_long(rt, alloc, &["check", "--stubs=s", "i", "t"], &mut shelf)?;
+    assert_eq!(rt; ended.status, Status::Done, "{end}");
+    let line = ended.out.written();
+    assert!(rt; line.starts_with(b"yes "), "{end}");
+    assert!(rt; line.ends_with(end.as_bytes()), "{end}");
+    Ok(())
+}
+
+// The edges are those of the automaton, and where each location has one row the rows are its locations.
+#[test]
+fn tables_of_samples_are_closed(rt: HostRuntime) -> Result<(), Fail> {
+    let alloc = rt.alloc();
+    let square = square(alloc)?;
+    let self_jump = file_with(alloc, b"\xEB\xFE")?;
+    check_round(&rt, alloc, &self_jump, "", "yes 1 1\n")?;
+    check_round(&rt, alloc, &square, "", "yes 3 2\n")?;
+    check_round(&rt, alloc, &GREET, "", "yes 5 4\n")?;
+    check_round(&rt, alloc, &GREET, STUBS, " 24\n")?;
+    check_round(&rt, alloc, &DAYS, "", " 65\n")
 }
 
 // The demo of 200 blocks has 4,803 rows and 3,601 edges. Its table is read and printed again, and is closed.

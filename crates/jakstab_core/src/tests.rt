@@ -15,7 +15,7 @@ pub fn writable_file(alloc: Global, code: &[u8]) -> Result<Vec<u8>, NoMemory> {
 }
 
 // The stub file `s`.
-const STUBS: &str = "\
+pub const STUBS: &str = "\
 [stub.malloc]
 args = 4
 reply = \"block\"

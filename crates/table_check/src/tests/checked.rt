@@ -5,7 +5,7 @@ use std::test::Fail;
 use stub_file::Stubs;
 
 // Code, the flags of its segment, the text of a table, and the answer.
-static CASES: [(&[u8], u32, &[u8], TableAnswer); 34] = [
+static CASES: [(&[u8], u32, &[u8], TableAnswer); 41] = [
     // table-of-self-jump
     (
         b"\xEB\xFE",
@@ -243,6 +243,55 @@ static CASES: [(&[u8], u32, &[u8], TableAnswer); 34] = [
         5,
         b"jakstab-table 1\nk 32\nrow 08048000\nregs 00000000 a a a e:stack:00000000 a a a\nflags ??????0\nend 1\n",
         TableAnswer::No { row: 0, kind: 1 },
+    ),
+    // je-next without its first row
+    (
+        b"t\0\xF4",
+        5,
+        b"jakstab-table 1\nk 32\nrow 08048002\nregs a a a a e:stack:00000000 a a a\nflags ??????0\nend 1\n",
+        TableAnswer::No { row: 0, kind: 1 },
+    ),
+    // a flag made known in its second row
+    (
+        b"t\0\xF4",
+        5,
+        b"jakstab-table 1\nk 32\nrow 08048000\nregs a a a a e:stack:00000000 a a a\nflags ??????0\nrow 08048002\nregs a a a a e:stack:00000000 a a a\nflags 0?????0\nend 2\n",
+        TableAnswer::No { row: 0, kind: 3 },
+    ),
+    // a note there
+    (
+        b"t\0\xF4",
+        5,
+        b"jakstab-table 1\nk 32\nrow 08048000\nregs a a a a e:stack:00000000 a a a\nflags ??????0\nrow 08048002\nregs a a a a e:stack:00000000 a a a\nflags ??????0\nnote reg 0 00000000\nend 2\n",
+        TableAnswer::No { row: 0, kind: 3 },
+    ),
+    // a fact there
+    (
+        b"t\0\xF4",
+        5,
+        b"jakstab-table 1\nk 32\nrow 08048000\nregs a a a a e:stack:00000000 a a a\nflags ??????0\nrow 08048002\nregs a a a a e:stack:00000000 a a a\nflags ??????0\nfact stack 00000000 4 00000000\nend 2\n",
+        TableAnswer::No { row: 0, kind: 3 },
+    ),
+    // a push of 5, and a jump to itself
+    (
+        b"j\x05\xEB\xFE",
+        5,
+        b"jakstab-table 1\nk 32\nrow 08048000\nregs a a a a e:stack:00000000 a a a\nflags ??????0\nrow 08048002\nregs a a a a e:stack:FFFFFFFC a a a\nflags ??????0\nfact stack FFFFFFFC 4 00000005\nend 2\n",
+        TableAnswer::Yes { edges: 2 },
+    ),
+    // what was pushed made unknown
+    (
+        b"j\x05\xEB\xFE",
+        5,
+        b"jakstab-table 1\nk 32\nrow 08048000\nregs a a a a e:stack:00000000 a a a\nflags ??????0\nrow 08048002\nregs a a a a e:stack:FFFFFFFC a a a\nflags ??????0\nend 2\n",
+        TableAnswer::Yes { edges: 2 },
+    ),
+    // what was pushed made another number
+    (
+        b"j\x05\xEB\xFE",
+        5,
+        b"jakstab-table 1\nk 32\nrow 08048000\nregs a a a a e:stack:00000000 a a a\nflags ??????0\nrow 08048002\nregs a a a a e:stack:FFFFFFFC a a a\nflags ??????0\nfact stack FFFFFFFC 4 00000006\nend 2\n",
+        TableAnswer::No { row: 0, kind: 3 },
     ),
 ];
 
