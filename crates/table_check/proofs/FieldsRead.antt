@@ -1,6 +1,6 @@
 -- The texts of a table's fields are read as what they are of.
 use Rattle.std.proofs.Common.{◌≡◌, ℕ, zero, suc, ◌-◌, ◌/◌, ◌%◌, ◌<◌, ◌≤◌, ◌^◌, ◌==◌, Bool, true, false, List, [], ◌∷◌, ◌++◌, length, map, Option, None, Some, refl, ◌∙◌, ap, arith, append_assoc, nat_lt, decimal, ℤ, pos, negsuc, neg_ℤ, ◌+ℤ◌, ◌≤ℤ◌, ◌<ℤ◌}
-use Rattle.std.specs.Prelude.{codes, nat_le, not, int_le, int_lt, is_some, unsigned_abs, option_and_then, option_map, if◌then◌else◌}
+use Rattle.std.specs.Prelude.{codes, nat_le, not, ◌&&◌, int_le, int_lt, is_some, unsigned_abs, option_and_then, option_map, if◌then◌else◌}
 use Rattle.std.specs.List.{list_all}
 use Rattle.std.specs.Str.{bytes_eq}
 use Rattle.std.proofs.lemmas.Bool.Decides.{nat_tests}

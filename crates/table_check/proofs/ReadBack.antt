@@ -1,6 +1,6 @@
 -- The text of a table of an image is read line by line, each line as what it was printed of.
 use Rattle.std.proofs.Common.{◌≡◌, ℕ, ◌+◌, ◌-◌, ◌<◌, ◌≤◌, ◌^◌, ◌==◌, Bool, true, false, List, [], ◌∷◌, ◌++◌, length, map, Option, None, Some, Ok, refl, sym, ◌∙◌, ap, subst, arith, append_assoc, append-nil, decimal, nat_lt, ◌+ℤ◌}
-use Rattle.std.specs.Prelude.{All, Result, codes, flat_map, nat_le, int_lt, option_map, slice_get, if◌then◌else◌}
+use Rattle.std.specs.Prelude.{All, Result, codes, flat_map, nat_le, ◌&&◌, int_lt, option_map, slice_get, if◌then◌else◌}
 use Rattle.std.specs.Option.{option_map_or}
 use Rattle.std.specs.List.{list_all}
 use Rattle.std.specs.declared.cmp.Ordering.{Ordering}
@@ -41,7 +41,7 @@ use Rattle.table_check.specs.Reading.{TableSoFar, after_state, block_step, close
 use Rattle.table_check.specs.Text.{area_text, block_line, count_text, dirty_line, end_line, fact_line, flags_line, header_text, k_line, note_line, offset_text, open_line, region_text, regs_line, row_line, row_text, state_text, table_text, truth_code, value_text}
 use Rattle.table_check.specs.TextLaws.{FitsRow, FitsState, IsStateOf, TablesAreReadBack, fits_count, fits_dirty, fits_fact, fits_note, is_above, is_made, is_word}
 use Rattle.table_check.proofs.FieldsTold.{block_list, dirty_list, fact_list, note_list}
-use Rattle.table_check.proofs.FieldsRead.{block_back, dirty_back, fact_back, flags_back, k_back, note_back, plain_area, plain_count, plain_region, plain_truths, plain_value_text, plain_width, regs_back}
+use Rattle.table_check.proofs.FieldsRead.{block_back, dirty_back, fact_back, flags_back, k_back, note_back, plain_area, plain_count, plain_region, plain_truths, plain_value_text, plain_width, regs_back, word_small}
 use Rattle.table_check.proofs.Told.{block_text, dirty_text, end_text, fact_text, flags_text, k_text, note_line-none, note_text, open_text, regs_text, row_head}
 use Rattle.std.proofs.lemmas.Bool.{and_parts, and_from}
 use Rattle.text_fields.proofs.LastOnes.{last_of_more}
