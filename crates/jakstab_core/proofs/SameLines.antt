@@ -26,8 +26,9 @@ use Rattle.automaton_text.specs.declared.automaton.Automaton.{Automaton}
 use Rattle.automaton_text.specs.Laws.{FitsTypes, fits_edge, fits_label, fits_location, fits_mark, fits_name, fits_row, is_word}
 use Rattle.automaton_text.specs.Orderly.{edge_text}
 use Rattle.automaton_text.specs.Text.{cause_text, code_text, edge_line, end_line, entry_line, header_line, import_suffix, is_version, label_text, loc_line, open_line, suffix_of, text_of}
-use Rattle.automaton_text.proofs.Ascends.{both}
-use Rattle.automaton_text.proofs.ClearTexts.{clear_both, clear_code, is_clear, is_plain, plain_bytes, plain_cause, plain_clear, plain_decimal, plain_is, plain_name, plain_word}
+use Rattle.std.proofs.lemmas.Bool.{and_parts}
+use Rattle.text_fields.proofs.PlainTexts.{is_plain, plain_bytes, plain_decimal, plain_is, plain_word}
+use Rattle.automaton_text.proofs.ClearTexts.{clear_both, clear_code, is_clear, plain_cause, plain_clear, plain_name}
 use Rattle.automaton_text.proofs.FieldsTold.{row_list}
 use Rattle.automaton_text.proofs.ReadBack.{clear_is}
 use Rattle.automaton_text.proofs.Told.{edge_whole, end_whole, mark_whole}
@@ -50,7 +51,7 @@ module _ {X : Type 0} (line body : X → List ℕ) (fits : X → Bool) (one : (x
   lined_all : (xs : List X) → list_all fits xs ≡ true → Lined (flat_map line xs) (map body xs)
   lined_all [] all = record { splits = λ rest. refl }
   lined_all (x ∷ xs) all =
-      let f : (fits x ≡ true) × (list_all fits xs ≡ true) = both (fits x) (list_all fits xs) all in
+      let f : (fits x ≡ true) × (list_all fits xs ≡ true) = and_parts (fits x) (list_all fits xs) all in
       lined_both (line x) (flat_map line xs) (body x ∷ []) (map body xs) (one x f.0) (lined_all xs f.1)
 
 lined_clear : (body : List ℕ) → is_clear body ≡ true → Lined (body ++ newline) (body ∷ [])
@@ -120,7 +121,7 @@ clear_suffix false (Some name) fits = clear_both space name refl (plain_clear na
 loc_lined : (l : Location) → fits_location l ≡ true → Lined (loc_line l) (loc_body l ∷ [])
 unfolding loc_body loc_line
 loc_lined l fits =
-    let f : (is_word l.at ≡ true) × (fits_name l.name ≡ true) = both (is_word l.at) (fits_name l.name) fits in
+    let f : (is_word l.at ≡ true) × (fits_name l.name ≡ true) = and_parts (is_word l.at) (fits_name l.name) fits in
     lined_clear (codes "loc " ++ hex8 l.at ++ suffix_of l)
     (clear_both (codes "loc " ++ hex8 l.at) (suffix_of l) (clear_both (codes "loc ") (hex8 l.at) refl (clear_word l.at)) (clear_suffix (l.at == EXIT_PLACE) l.name f.1))
 
@@ -139,11 +140,11 @@ edge_clear x fits =
     (label_clear x.from x.label fits))
 
 edge_label : (x : Edge) → fits_edge x ≡ true → fits_label x.label ≡ true
-edge_label x fits = (both (is_word x.from && is_word x.to) (fits_label x.label) fits).1
+edge_label x fits = (and_parts (is_word x.from && is_word x.to) (fits_label x.label) fits).1
 
 edge_words : (x : Edge) → fits_edge x ≡ true → (x.from < 2 ^ 32) × (x.to < 2 ^ 32)
 edge_words x fits =
-    let w : (is_word x.from ≡ true) × (is_word x.to ≡ true) = both (is_word x.from) (is_word x.to) (both (is_word x.from && is_word x.to) (fits_label x.label) fits).0 in
+    let w : (is_word x.from ≡ true) × (is_word x.to ≡ true) = and_parts (is_word x.from) (is_word x.to) (and_parts (is_word x.from && is_word x.to) (fits_label x.label) fits).0 in
     (word_small x.from w.0, word_small x.to w.1)
 
 edge_lined : (x : Edge) → fits_edge x ≡ true → Lined (edge_line x) (edge_body x ∷ [])
@@ -159,7 +160,7 @@ plain_rows (Some row) fits = let small : row < 2 ^ 32 = word_small row fits in p
 mark_plain : (m : OpenMark) → fits_mark m ≡ true → ArePlain (mark_fields m)
 unfolding mark_fields
 mark_plain m fits =
-    let f : (is_word m.at ≡ true) × (fits_row m.row ≡ true) = both (is_word m.at) (fits_row m.row) fits in
+    let f : (is_word m.at ≡ true) × (fits_row m.row ≡ true) = and_parts (is_word m.at) (fits_row m.row) fits in
     plain.one (hex8 m.at) (cause_text m.cause ∷ row_list m.row) (plain_is (hex8 m.at) (plain_word m.at)) (plain.one (cause_text m.cause) (row_list m.row) (plain_is (cause_text m.cause) (plain_cause m.cause)) (plain_rows m.row f.1))
 
 mark_lined : (m : OpenMark) → fits_mark m ≡ true → Lined (open_line m) (mark_body m ∷ [])
@@ -332,8 +333,8 @@ first_of fs = get_or fs 0 []
 label_same : (f g : ℕ) (l k : Label) → fits_label l ≡ true → fits_label k ≡ true → label_fields f l ≡ label_fields g k → l ≡ k
 label_same f g (Code b) (Code c) fits also e =
     let hex : hex_text b.items ≡ hex_text c.items = ap first_of e in
-    let small = both _ (list_all (λ b. nat_lt b (2 ^ 8)) b.items) fits in
-    let less = both _ (list_all (λ b. nat_lt b (2 ^ 8)) c.items) also in
+    let small = and_parts _ (list_all (λ b. nat_lt b (2 ^ 8)) b.items) fits in
+    let less = and_parts _ (list_all (λ b. nat_lt b (2 ^ 8)) c.items) also in
     ap (λ (l : List ℕ). Code (record { items = l })) (bytes_same b.items c.items small.1 less.1 hex)
 label_same f g (Import m) (Import n) fits also e = let names : m ≡ n = ap (λ fs. get_or fs 1 []) e in ap Import names
 label_same f g (Code b) (Import n) fits also e = absurd (no_import b.items (let hex : hex_text b.items ≡ codes "import" = ap first_of e in hex))
@@ -393,7 +394,7 @@ unfolding mark_body
 mark_parts m fits = fields_spaced (codes "open") (mark_fields m) (plain_is (codes "open") refl) (mark_plain m fits)
 
 mark_word : (m : OpenMark) → fits_mark m ≡ true → m.at < 2 ^ 32
-mark_word m fits = word_small m.at (both (is_word m.at) (fits_row m.row) fits).0
+mark_word m fits = word_small m.at (and_parts (is_word m.at) (fits_row m.row) fits).0
 
 mark_same : (m n : OpenMark) → fits_mark m ≡ true → fits_mark n ≡ true → mark_body m ≡ mark_body n → m.at ≡ n.at
 unfolding mark_fields
