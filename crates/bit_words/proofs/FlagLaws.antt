@@ -1,5 +1,6 @@
 -- Laws of the flags: a flag reads back as it was packed, and the flags of a difference compare its operands.
 use Rattle.std.proofs.Common.{◌≡◌, ℕ, ◌+◌, ◌-◌, ◌%◌, ◌^◌, ◌<◌, Bool, true, false, not, ◌&&◌, eqb, ltb, refl, ap, arith, add-zero}
+use Rattle.std.proofs.lemmas.Bool.{and_parts}
 use Rattle.std.proofs.lemmas.Bool.Decides.{nat_tests}
 use Rattle.bit_words.specs.declared.width.Width.{Width}
 use Rattle.bit_words.specs.declared.width.Width.TheVariants.{B8, B16, B32}
@@ -22,17 +23,13 @@ same-eq true false h = cc
 same-eq false true h = cc
 same-eq false false h = refl
 
-and_true : (a b : Bool) → a && b ≡ true → (a ≡ true) × (b ≡ true)
-and_true true b h = (refl, h)
-and_true false b h = cc
-
 both : (Bool → Bool) → Bool
 both p = p true && p false
 
 both-at : (p : Bool → Bool) → both p ≡ true → (b : Bool) → p b ≡ true
 unfolding both
-both-at p h true = (and_true (p true) (p false) h).0
-both-at p h false = (and_true (p true) (p false) h).1
+both-at p h true = (and_parts (p true) (p false) h).0
+both-at p h false = (and_parts (p true) (p false) h).1
 
 -- the record of seven flags
 of_bools : Bool → Bool → Bool → Bool → Bool → Bool → Bool → FlagBits
@@ -53,12 +50,12 @@ flags-same f g c p a z s o d = of_bools-same _ _ _ _ _ _ _ _ _ _ _ _ _ _ c p a z
 same_flags-eq : (f g : FlagBits) → same_flags f g ≡ true → f ≡ g
 unfolding same_flags
 same_flags-eq f g h =
-    let h1 = and_true _ _ h in
-    let h2 = and_true _ _ h1.1 in
-    let h3 = and_true _ _ h2.1 in
-    let h4 = and_true _ _ h3.1 in
-    let h5 = and_true _ _ h4.1 in
-    let h6 = and_true _ _ h5.1 in
+    let h1 = and_parts _ _ h in
+    let h2 = and_parts _ _ h1.1 in
+    let h3 = and_parts _ _ h2.1 in
+    let h4 = and_parts _ _ h3.1 in
+    let h5 = and_parts _ _ h4.1 in
+    let h6 = and_parts _ _ h5.1 in
     flags-same f g (same-eq f.carry g.carry h1.0) (same-eq f.parity g.parity h2.0) (same-eq f.adjust g.adjust h3.0) (same-eq f.zero g.zero h4.0) (same-eq f.sign g.sign h5.0) (same-eq f.overflow g.overflow h6.0) (same-eq f.direction g.direction h6.1)
 
 back : Bool → Bool → Bool → Bool → Bool → Bool → Bool → Bool

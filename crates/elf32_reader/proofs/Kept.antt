@@ -3,10 +3,9 @@ use Rattle.std.proofs.Common.{ℕ, ◌≡◌, ◌+◌, ◌<◌, ◌≤◌, Bool,
 use Rattle.std.specs.Prelude.{◌&&◌, ◌||◌, ◌==◌, not, nat_le, nat_eq, Result, Ok, Err}
 use Rattle.std.specs.List.{list_all, list_any, position_or_len}
 use Rattle.std.specs.Cmp.Lexicographic.{pointwise}
-use Rattle.std.proofs.lemmas.Bool.{lt-ltb, ltb-true}
+use Rattle.std.proofs.lemmas.Bool.{lt-ltb, ltb-true, and_parts}
 use Rattle.std.proofs.lemmas.List.{length-append}
 use Rattle.memory_map.specs.Range.{Range}
-use Rattle.memory_map.proofs.Faults.{and-parts}
 use Rattle.file_pieces.specs.Found.{is_in_one}
 use Rattle.memory_map.specs.Name.{MOST_NAMES}
 use Rattle.file_pieces.specs.Names.{index_of, is_named, with_name}
@@ -37,7 +36,7 @@ below_more a b Unset h k = refl
 all_below_more : (a b : ℕ) (rs : List ElfReloc) → a ≤ b → list_all (has_name_below a) rs ≡ true → list_all (has_name_below b) rs ≡ true
 all_below_more a b [] h k = refl
 all_below_more a b (r ∷ rs) h k =
-    let parts = and-parts (has_name_below a r) (list_all (has_name_below a) rs) k in
+    let parts = and_parts (has_name_below a r) (list_all (has_name_below a) rs) k in
     ap (λ t. t && list_all (has_name_below b) rs) (below_more a b r.symbol h parts.0) ∙ all_below_more a b rs h parts.1
 
 -- a symbol that is no import has no name

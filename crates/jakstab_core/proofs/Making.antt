@@ -3,8 +3,7 @@ use Rattle.std.proofs.Common.{◌≡◌, ℕ, ◌≤◌, Bool, true, false, cond
 use Rattle.std.specs.Prelude.{⊤, IsSomeAnd, bytes_eq, nat_le, option_and_then, ◌&&◌}
 use Rattle.std.specs.Option.{option_map}
 use Rattle.std.specs.Str.Parse.{digits_value}
-use Rattle.std.proofs.lemmas.Bool.{leb-true}
-use Rattle.memory_map.proofs.Faults.{and-parts}
+use Rattle.std.proofs.lemmas.Bool.{leb-true, and_parts}
 use Rattle.stub_file.specs.Stubs.{Refuses}
 use Rattle.stub_file.specs.declared.fault.StubFault.{StubFault}
 use Rattle.stub_file.specs.declared.fault.StubFault.TheVariants.{Memory}
@@ -59,7 +58,7 @@ at_most_if most n false within h = tt
 number_at_most : (least most : ℕ) (word : List ℕ) → IsAtMost most (number_within least most word)
 number_at_most least most word =
     let n = digits_value 10 word in
-    at_most_if most n (is_number word) (is_within least most n) (λ e. leb-true n most (and-parts (nat_le least n) (nat_le n most) e).1)
+    at_most_if most n (is_number word) (is_within least most n) (λ e. leb-true n most (and_parts (nat_le least n) (nat_le n most) e).1)
 
 blocks_at_most : (word : Option (List ℕ)) → IsAtMost MOST_BLOCKS (option_and_then (number_within 0 MOST_BLOCKS) word)
 blocks_at_most None = tt

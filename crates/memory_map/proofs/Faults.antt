@@ -3,7 +3,6 @@ use Rattle.std.proofs.Common.{◌≡◌, inl, inr, ⊎_elim, Bool, true, false, 
 use Rattle.std.specs.Prelude.{◌&&◌, ◌||◌, nat_le, nat_lt, All, AllPairs, filter}
 use Rattle.std.specs.List.{list_all}
 use Rattle.std.proofs.lemmas.Bool.{leb-true, le-leb, le-ltb, ltb-false, or_cases, or_right, and_parts}
-pub use Rattle.std.proofs.lemmas.Bool.{and_parts as and-parts}
 use Rattle.std.proofs.lemmas.List.Elements.{All-nil, All-cons, All-map}
 use Rattle.memory_map.specs.Range.{Range, USER_LOW, USER_END, end_of, IsInUserSpace, AreApart, HasBytes}
 use Rattle.memory_map.specs.Map.{range_of, all_apart, are_apart, is_in_user_space, total_size, map_fault, mapped, maps_some, HasSome, IsMap, MAPPED_LIMIT}

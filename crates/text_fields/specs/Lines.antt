@@ -59,10 +59,11 @@ abbrev pub or_fault : {A B : Type 0} → ℕ → Option A → (A → Result B �
 or_fault kind None go = Err kind
 or_fault kind (Some found) go = go found
 
--- whether an element passes a test with the last one of a list, where that has one
+-- the last element of a list, where it has one
 abbrev pub last_of : {X : Type 0} → List X → Option X
 last_of xs = slice_get xs (length xs - 1)
 
+-- whether an element passes a test with the last one of a list, where that has one
 abbrev pub follows_last : {X Y : Type 0} → (X → Y → Bool) → List X → Y → Bool
 follows_last test xs y = option_map_or (λ last. test last y) (last_of xs) true
 
