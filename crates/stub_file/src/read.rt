@@ -4,7 +4,7 @@ ghost use Rattle.std.specs.Cmp.Lexicographic.{slice_cmp};
 ghost use Rattle.std.specs.List.{list_all};
 ghost use Rattle.std.specs.Ordering.{nat_cmp};
 ghost use Rattle.memory_map.specs.Name.{is_name, is_name_byte};
-ghost use Rattle.stub_file.specs.Document.{number_at, value_at};
+ghost use Rattle.stub_file.specs.Document.{natural_at, value_at};
 ghost use Rattle.stub_file.specs.Entries.{AreRead, OrMemory, Puts};
 ghost use Rattle.stub_file.specs.Faults.{AreFaultless, HasFault, IsFaultless, IsFirstFault, stub_fault, stubs_in, top_fault};
 ghost use Rattle.stub_file.specs.Stated.{IsStub, has_own_arguments};
@@ -13,7 +13,7 @@ ghost use Rattle.toml.specs.Data.{as_table};
 ghost use Rattle.toml.specs.View.{table_view, view};
 
 use crate::build::stub_of;
-use crate::document::{number_at, value_at};
+use crate::document::{natural_at, value_at};
 use crate::fault::StubFault;
 use crate::faults::{table_fault, top_fault};
 use crate::keys::Key;
@@ -103,10 +103,10 @@ fn read_all(alloc: Global, table: &Table) -> Result<BTreeMap<Vec<u8>, Stub>, Stu
 }
 
 fn align_at(table: &Table) -> Option<u32>
-    requires { unwrap_or (number_at Key.StackAlign (table_view table.now)) 0 < 2 ^ 32 }
-    ensures { result ≡ number_at Key.StackAlign (table_view table.now) }
+    requires { unwrap_or (natural_at Key.StackAlign (table_view table.now)) 0 < 2 ^ 32 }
+    ensures { result ≡ natural_at Key.StackAlign (table_view table.now) }
 {
-    match number_at(table, Key::StackAlign) {
+    match natural_at(table, Key::StackAlign) {
         Some(number) => Some(number as u32),
         None => None,
     }
