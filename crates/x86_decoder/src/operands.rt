@@ -41,7 +41,7 @@ pub fn instr(prefixes: Prefixes, row: Row, pieces: Pieces) -> Instr
 {
     let segment = segment(prefixes.segment);
     Instr {
-        name: name_at(
+        name: mnemonic_of(
             row.name,
             prefixes.size,
             place_of(row, pieces.code),
@@ -75,7 +75,7 @@ fn place_of(row: Row, code: u8) -> u8
     }
 }
 
-fn name_at(name: Name, size: bool, place: u8, reg: u8) -> Mnemonic
+fn mnemonic_of(name: Name, size: bool, place: u8, reg: u8) -> Mnemonic
     ensures { result ≡ named name size place reg }
 {
     match name {
