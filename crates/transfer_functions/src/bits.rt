@@ -5,7 +5,7 @@ ghost use Rattle.partitioned_memory.specs.Well.{MayHold};
 ghost use Rattle.bit_words.specs.Operators.{one_if};
 ghost use Rattle.domain_laws.specs.Made.{values_of};
 ghost use Rattle.x86_semantics.specs.Bits.{status_byte};
-ghost use Rattle.x86_semantics.specs.Operands.{next_address};
+ghost use Rattle.x86_syntax.specs.Text.{next_address};
 ghost use Rattle.transfer_functions.specs.Bits.{change_flag, changed, flags_set, has_status, is_known, is_yes, load_status, status_value, store_status, with_carry};
 
 use crate::arithmetic::set_ruled;

@@ -2,7 +2,7 @@ ghost use Rattle.std.specs.Prelude.{◌≡◌, IfOk, true};
 ghost use Rattle.bit_words.specs.declared.width.Width.TheVariants.{B32};
 ghost use Rattle.domain_laws.specs.Made.{values_of};
 ghost use Rattle.partitioned_memory.specs.Well.{MayHold};
-ghost use Rattle.x86_semantics.specs.Operands.{next_address};
+ghost use Rattle.x86_syntax.specs.Text.{next_address};
 ghost use Rattle.x86_semantics.specs.Registers.{ESP};
 ghost use Rattle.x86_semantics.specs.Widths.{has_own_widths};
 ghost use Rattle.abstract_state.specs.Expanding.{joined, lands};

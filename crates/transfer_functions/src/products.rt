@@ -4,7 +4,7 @@ ghost use Rattle.partitioned_memory.specs.declared.fact.Counted.{Counted};
 ghost use Rattle.partitioned_memory.specs.Well.{MayHold};
 ghost use Rattle.bit_words.specs.declared.width.Width.TheVariants.{B32};
 ghost use Rattle.bit_words.specs.Width.{bits_of, cut, is_signed, word_of};
-ghost use Rattle.x86_semantics.specs.Operands.{next_address};
+ghost use Rattle.x86_syntax.specs.Text.{next_address};
 ghost use Rattle.transfer_functions.specs.Products.{accumulator, divide, divide_known, divided, exact, multiply, multiply_long, product, quotients, quotients_signed, quotients_unsigned, upper_half, with_long};
 
 use crate::site::Site;

@@ -12,6 +12,7 @@ use Rattle.x86_syntax.specs.declared.instr.Operand.TheVariants.{Register, Number
 use Rattle.x86_syntax.specs.declared.instr.Repeat.{Repeat}
 use Rattle.x86_syntax.specs.declared.instr.Repeat.TheVariants.{Once, Rep, Repe, Repne}
 use Rattle.x86_syntax.specs.declared.instr.Seg.{Seg}
+use Rattle.x86_syntax.specs.Text.{next_address}
 use Rattle.x86_semantics.specs.declared.operation.Operation.{Operation}
 use Rattle.x86_semantics.specs.declared.operation.Operation.TheVariants.{Combine, Carry, Compare, Move, Convert, Lea, Exchange, Shift, DoubleShift, TestBit, FindBit, CompareExchange, ExchangeAdd, MultiplyLong, Multiply, Divide, Jump, Goto, Loop, JumpIfNoCount, Call, Return, Push, Pop, Leave, Set, MoveIf, Flag, LoadStatus, StoreStatus, Element, Nothing, Stop}
 use Rattle.x86_semantics.specs.declared.operation.StringKind.{StringKind}
@@ -19,7 +20,7 @@ use Rattle.x86_semantics.specs.declared.operation.StringKind.TheVariants as stri
 use Rattle.x86_semantics.specs.Condition.{is_met}
 use Rattle.x86_semantics.specs.Does.{done}
 use Rattle.x86_semantics.specs.Moves.{below, pop_into, popped}
-use Rattle.x86_semantics.specs.Operands.{Ended, Next, address_of, next_address}
+use Rattle.x86_semantics.specs.Operands.{Ended, Next, address_of}
 use Rattle.x86_semantics.specs.Products.{divided, dividend, on_divided, signed_dividend}
 use Rattle.x86_semantics.specs.Registers.{EBP, ECX, EDI, ESP, register}
 use Rattle.x86_semantics.specs.Strings.{counted, element, source_address, step_of, string}
