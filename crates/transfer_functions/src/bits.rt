@@ -14,9 +14,7 @@ use crate::values::{anything, number, part, set_part};
 use abstract_state::{Expansion, Path, State, Truth, Truths};
 use bit_words::{NoMemory, Width};
 use domain_laws::Domain;
-use x86_semantics::{FlagChange, FlagRule};
-
-const AH: u8 = 4;
+use x86_semantics::{AH, FlagChange, FlagRule};
 
 fn is_known(t: Truth) -> bool
     ensures { result ≡ is_known t }

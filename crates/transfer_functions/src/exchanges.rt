@@ -9,12 +9,13 @@ ghost use Rattle.abstract_state.specs.Expanding.{joined};
 ghost use Rattle.transfer_functions.specs.Exchanges.{compare_exchange, compared_to, exchange_add, exchanged, not_exchanged, taken};
 
 use crate::flags::by_operator;
-use crate::products::{EAX, accumulator};
+use crate::products::accumulator;
 use crate::site::Site;
 use crate::values::{eval, part, set_part};
 use abstract_state::{Expansion, Path, Stored, Truth};
 use bit_words::{NoMemory, Op, Width};
 use domain_laws::Domain;
+use memory_map::EAX;
 use x86_semantics::{FlagRule, Operation};
 use x86_syntax::Operand;
 

@@ -12,11 +12,9 @@ use crate::values::{anything, number, part, set_part};
 use abstract_state::{Expansion, Path, State, Truths};
 use bit_words::{NoMemory, Op, Width, apply};
 use domain_laws::Domain;
+use memory_map::EAX;
 use x86_semantics::{FlagRule, upper_register};
 use x86_syntax::Operand;
-
-/// The register of the accumulator.
-pub(crate) const EAX: u8 = 0;
 
 // Quotient and remainder, where the quotient fits.
 fn quotients_unsigned(w: Width, x: u64, y: u64) -> Option<(u32, u32)>

@@ -20,14 +20,9 @@ use crate::values::{
 use abstract_state::{Expansion, Path, State, Stored, Truth, Truths};
 use bit_words::{NoMemory, Op, Width};
 use domain_laws::Domain;
+use memory_map::{EAX, EDI, ESI};
 use x86_semantics::{FlagRule, StringKind};
 use x86_syntax::{Repeat, Seg};
-
-const EAX: u8 = 0;
-
-const ESI: u8 = 6;
-
-const EDI: u8 = 7;
 
 // Whether a repetition ends by ZF.
 fn ends_by(repeat: Repeat, t: &Truths) -> Truth
