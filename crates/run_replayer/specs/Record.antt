@@ -53,7 +53,7 @@ IsNext image stubs choice m (Step s) new = StepBy image stubs choice m (stepped 
 IsNext image stubs choice m (End end) new = Stops image stubs choice m end
 
 -- the first of these steps is the machine's, and the others are made from where it leads
-pub record GoesOn (image : Image) (stubs : StatedStubs) (choice : Choice) (m : MachineState) (steps : List RunStep) (Rest : MachineState → List RunStep → Type 0) : Type 0 where
+pub record StepsOn (image : Image) (stubs : StatedStubs) (choice : Choice) (m : MachineState) (steps : List RunStep) (Rest : MachineState → List RunStep → Type 0) : Type 0 where
   pub next : MachineState
   pub rest : List RunStep
   pub comes : StepBy image stubs choice m (stepped next)
@@ -65,7 +65,7 @@ unfoldable pub AreMade : Image → StatedStubs → ℕ → List Choice → Machi
 AreMade image stubs zero choices m steps end = (steps ≡ []) × (end ≡ ends.Steps)
 AreMade image stubs (suc count) choices m steps end =
     ((steps ≡ []) × Stops image stubs (next_choice choices) m end)
-    ⊎ GoesOn image stubs (next_choice choices) m steps (λ next rest. AreMade image stubs count (later_choices choices) next rest end)
+    ⊎ StepsOn image stubs (next_choice choices) m steps (λ next rest. AreMade image stubs count (later_choices choices) next rest end)
 
 -- two starts are the same but for their choices
 pub record SameStart (s t : StartFile) : Type 0 where
