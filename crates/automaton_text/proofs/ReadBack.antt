@@ -1,8 +1,8 @@
 -- The text of an orderly automaton is read line by line, each line as what it was printed of.
-use Rattle.std.proofs.Common.{◌≡◌, ◌⊎◌, inl, inr, ℕ, suc, ◌+◌, ◌<◌, ◌^◌, ◌/◌, ◌%◌, ◌==◌, Bool, true, false, List, [], ◌∷◌, ◌++◌, length, get_or, Option, None, Some, Ok, Err, refl, sym, ◌∙◌, ap, subst, arith, append_assoc, append-nil, decimal, nat_lt, nat_le}
-use Rattle.std.specs.Prelude.{All, Result, codes, flat_map, is_none, is_some, not, ◌&&◌, ◌||◌, option_and_then, option_map, if◌then◌else◌}
+use Rattle.std.proofs.Common.{◌≡◌, ◌⊎◌, inl, inr, ℕ, zero, suc, ◌+◌, ◌<◌, ◌≤◌, ◌^◌, ◌/◌, ◌%◌, ◌==◌, Bool, true, false, List, [], ◌∷◌, ◌++◌, length, get_or, Option, None, Some, Ok, Err, refl, sym, ◌∙◌, ap, subst, arith, append_assoc, append-nil, decimal, nat_lt, nat_le}
+use Rattle.std.specs.Prelude.{All, Result, codes, find, flat_map, is_none, is_some, not, ◌&&◌, ◌||◌, option_and_then, option_map, if◌then◌else◌}
 use Rattle.std.specs.Option.{option_map_or}
-use Rattle.std.specs.List.{list_all}
+use Rattle.std.specs.List.{list_all, list_any}
 use Rattle.std.specs.Str.{bytes_eq}
 use Rattle.std.proofs.lemmas.Bool.Decides.{nat_tests}
 use Rattle.std.proofs.lemmas.Fmt.{decimal_digit}
@@ -13,12 +13,13 @@ use Rattle.memory_map.specs.Image.{EXIT_PLACE}
 use Rattle.memory_map.specs.Name.{is_name}
 use Rattle.text_fields.specs.Decimal.{decimal_is}
 use Rattle.text_fields.specs.Fields.{no_more, then_field, word_of}
-use Rattle.text_fields.specs.Hex.{hex8, hex_digit, hex_digits, hex2, hex_text}
-use Rattle.text_fields.specs.Line.{space}
-use Rattle.text_fields.specs.Lines.{CONTENT, COUNT, FIELD, HEADER, ORDER, WORD, fields, lines, demand, or_fault, last_of}
+use Rattle.text_fields.specs.Hex.{hex8, hex_bytes, hex_digit, hex_digits, hex2, hex_text}
+use Rattle.text_fields.specs.Line.{newline, space}
+use Rattle.text_fields.specs.declared.line_fault.LineFault.{LineFault}
+use Rattle.text_fields.specs.Lines.{CONTENT, COUNT, FIELD, HEADER, ORDER, WORD, fields, lines, read_from, demand, or_fault, last_of}
 use Rattle.text_fields.proofs.DecimalFacts.{decimal_read}
 use Rattle.text_fields.proofs.FieldTexts.{bytes_read, word_read, then_given, only_word_read, number_written}
-use Rattle.text_fields.proofs.Splitting.{ArePlain, Reaches, fields_spaced, reaches_both, reaches_end, reaches_line, reaches_none, spaced, spaced_line}
+use Rattle.text_fields.proofs.Splitting.{ArePlain, IsPlain, Reaches, fields_spaced, reaches_both, reaches_end, reaches_line, reaches_none, spaced, spaced_line}
 use Rattle.text_fields.proofs.Splitting as plain
 use Rattle.x86_syntax.specs.Spelling.{spelled}
 use Rattle.flow_log.specs.declared.cause.Cause.{Cause}
@@ -28,12 +29,13 @@ use Rattle.flow_log.specs.declared.edge.Label.{Label}
 use Rattle.flow_log.specs.declared.edge.Label.TheVariants.{Code, Import}
 use Rattle.automaton_text.specs.declared.automaton.Location.{Location}
 use Rattle.automaton_text.specs.declared.automaton.OpenMark.{OpenMark}
+use Rattle.automaton_text.specs.declared.automaton.Automaton.{Automaton}
 use Rattle.automaton_text.specs.declared.stage.Stage.{Stage}
 use Rattle.automaton_text.specs.declared.stage.Stage.TheVariants as stages
 use Rattle.automaton_text.specs.Laws.{OrderlyAutomataAreReadBack, fits_edge, fits_label, fits_location, fits_mark, fits_name, fits_row, is_word}
-use Rattle.automaton_text.specs.Orderly.{ascend, edge_text, has_own_name, is_edge_above, is_edge_among, is_label_at, is_location_above, is_opening_above}
-use Rattle.automaton_text.specs.Reading.{NO_ENTRY, AutomatonSoFar, automaton_grammar, automaton_read, automaton_step, cause_of, code_fields, code_step, count_fields, edge_step, end_fields, end_step, entry_step, has_own_suffix, import_fields, import_step, is_above, is_code, is_line_above, is_location, is_mark_above, is_marks, is_named, is_over, is_place_of, label_step, later_step, location_fields, location_or_later_step, location_step, mark_fields, mark_step, name_of, nothing, own_name, row_fields, row_of, suffix_fields, text_fields, told, version_of}
-use Rattle.automaton_text.specs.Text.{HaveRowsBy, cause_text, code_text, edge_line, end_line, entry_line, header_line, import_suffix, is_version, label_text, loc_line, open_line, suffix_of, text_of}
+use Rattle.automaton_text.specs.Orderly.{IsOrderly, ascend, edge_text, has_own_name, is_edge_above, is_edge_among, is_label_at, is_location_above, is_opening_above}
+use Rattle.automaton_text.specs.Reading.{NO_ENTRY, AutomatonSoFar, all_causes, automaton_grammar, automaton_read, automaton_step, cause_of, code_fields, code_step, count_fields, edge_step, end_fields, end_step, entry_step, has_own_suffix, header_step, import_fields, import_step, is_above, is_code, is_line_above, is_location, is_mark_above, is_marks, is_named, is_over, is_place_of, label_step, later_step, location_fields, location_or_later_step, location_step, mark_fields, mark_step, name_of, nothing, own_name, row_fields, row_of, suffix_fields, text_fields, told, version_of}
+use Rattle.automaton_text.specs.Text.{HaveRowsBy, cause_text, code_text, edge_line, end_line, entry_line, header_line, import_suffix, is_version, label_text, loc_line, open_line, row_suffix, suffix_of, text_of}
 use Rattle.automaton_text.proofs.ClearTexts.{clear_both, clear_code, is_clear, plain_cause, plain_clear, plain_name}
 use Rattle.automaton_text.proofs.FieldsTold.{import_text, row_list, suffix_list}
 use Rattle.automaton_text.proofs.Reading.{text_back}

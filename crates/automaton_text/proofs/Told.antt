@@ -1,6 +1,6 @@
 -- What an automaton's text tells is an orderly automaton, and the text is that automaton's.
-use Rattle.std.proofs.Common.{◌≡◌, ℕ, ◌+◌, ◌<◌, ◌≤◌, ◌^◌, ◌==◌, Bool, true, false, List, [], ◌∷◌, ◌++◌, length, Option, None, Some, Ok, Err, refl, sym, ◌∙◌, ap, subst, arith, append_assoc, append-nil, decimal}
-use Rattle.std.specs.Prelude.{Result, codes, flat_map, is_some, nat_le, ◌&&◌, if◌then◌else◌}
+use Rattle.std.proofs.Common.{◌≡◌, ℕ, zero, suc, ◌+◌, ◌<◌, ◌≤◌, ◌^◌, ◌==◌, Bool, true, false, List, [], ◌∷◌, ◌++◌, length, Option, None, Some, Ok, Err, refl, sym, ◌∙◌, ap, subst, arith, append_assoc, append-nil, decimal}
+use Rattle.std.specs.Prelude.{All, Result, codes, flat_map, is_some, nat_le, ◌&&◌, if◌then◌else◌}
 use Rattle.std.specs.Option.{option_map_or}
 use Rattle.std.specs.List.{join_with_byte, list_all}
 use Rattle.std.specs.Str.{bytes_eq}
@@ -12,7 +12,7 @@ use Rattle.std.proofs.lemmas.List.Elements.{All-nil, All-push}
 use Rattle.text_fields.specs.Hex.{hex8, hex_text}
 use Rattle.text_fields.specs.Line.{newline, space}
 use Rattle.text_fields.specs.declared.line_fault.LineFault.{LineFault}
-use Rattle.text_fields.specs.Lines.{CONTENT, COUNT, FIELD, HEADER, ORDER, WORD, after_line, end_fault, fields, lines, read_from, read_text, demand, or_fault, last_of}
+use Rattle.text_fields.specs.Lines.{CONTENT, COUNT, END, FIELD, HEADER, ORDER, WORD, after_line, end_fault, fields, lines, read_from, read_text, demand, or_fault, last_of}
 use Rattle.text_fields.proofs.Splitting.{fields_back, spaced}
 use Rattle.x86_syntax.specs.Spelling.{spelled}
 use Rattle.memory_map.specs.Image.{EXIT_PLACE}
@@ -26,8 +26,8 @@ use Rattle.automaton_text.specs.declared.stage.Stage.{Stage}
 use Rattle.automaton_text.specs.declared.stage.Stage.TheVariants as stages
 use Rattle.automaton_text.specs.Laws.{TextsTellOrderlyAutomata}
 use Rattle.automaton_text.specs.Orderly.{IsOrderly, ascend, edge_text, has_own_name, is_edge_above, is_edge_among, is_location_above, is_opening_above}
-use Rattle.automaton_text.specs.Reading.{NO_ENTRY, AutomatonSoFar, automaton_grammar, automaton_read, automaton_step, code_fields, code_step, count_fields, edge_step, end_fields, end_step, entry_step, has_own_suffix, header_step, import_fields, import_step, is_above, is_code, is_line_above, is_location, is_mark_above, is_marks, is_over, is_place_of, label_step, later_step, location_fields, location_or_later_step, location_step, mark_fields, mark_step, nothing, step_after, told, version_of}
-use Rattle.automaton_text.specs.Text.{HaveRowsBy, cause_text, code_text, edge_line, end_line, entry_line, header_line, is_version, label_text, loc_line, open_line, text_of}
+use Rattle.automaton_text.specs.Reading.{NO_ENTRY, AutomatonSoFar, automaton_grammar, automaton_read, automaton_step, code_fields, code_step, count_fields, edge_step, end_fields, end_step, entry_step, has_own_suffix, header_step, import_fields, import_step, is_above, is_code, is_line_above, is_location, is_mark_above, is_marks, is_over, is_place_of, label_step, later_step, location_fields, location_or_later_step, location_step, mark_fields, mark_step, nothing, step_after, told, version_of, with_edge}
+use Rattle.automaton_text.specs.Text.{HaveRowsBy, cause_text, code_text, edge_line, end_line, entry_line, header_line, is_version, label_text, loc_line, open_line, row_suffix, text_of}
 use Rattle.automaton_text.proofs.Ascends.{ascend_more, list_all-push}
 use Rattle.automaton_text.proofs.FieldsTold.{code_told, counts_told, ends_told, entry_text, import_told, location_named, location_text, location_told, mark_told, row_list, suffix_list, version_told}
 use Rattle.std.proofs.lemmas.Bool.{and_parts, and_from}
