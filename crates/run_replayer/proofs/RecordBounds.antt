@@ -152,14 +152,15 @@ record_in_bounds text r h =
     let last : Both h.read = (kept_lines record_grammar Both told all_told (lines text) 1 no_record h.read (record { keeps = nothing_in_turn; fits = nothing_fits }) h.reads).0 in
     let head = last.fits.head in
     let is = h.is in
+    let start = is.start in
     let Words : List ℕ → Type 0 = λ regs. All (λ n. n < 2 ^ 32) regs in
     record {
       start = record {
-        registers = ap length is.regs ∙ head.registers;
-        words = subst Words (sym is.regs) head.words;
-        fs = omega (arith, is.fs, head.fs);
-        gs = omega (arith, is.gs, head.gs);
-        fill = subst (All IsFill) (sym is.fill) head.fill;
+        registers = ap length start.regs ∙ head.registers;
+        words = subst Words (sym start.regs) head.words;
+        fs = omega (arith, start.fs, head.fs);
+        gs = omega (arith, start.gs, head.gs);
+        fill = subst (All IsFill) (sym start.fill) head.fill;
       };
       steps = subst (All IsStep) (sym is.steps) last.fits.steps;
     }

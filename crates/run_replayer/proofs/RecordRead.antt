@@ -252,5 +252,5 @@ record_reads r bounds =
     record {
       read = s7;
       reads = reaches_end record_grammar s0 s7 (record_text r) (subst P (end_joined (((record_header ++ newline) ++ start_lines r.start) ++ flat_map step_lines r.steps) (codes "end ") (end_word r.end) newline) all) refl;
-      is = record { regs = refl; flags = refl; fs = refl; gs = refl; fill = refl; choices = nil_from_length r.start.choices r.no_choices; steps = refl; end = refl };
+      is = record { start = record { regs = refl; flags = refl; fs = refl; gs = refl; fill = refl; choices = nil_from_length r.start.choices r.no_choices }; steps = refl; end = refl };
     }

@@ -160,7 +160,7 @@ told_written read end rest ended =
 
 written_same : (read : RecordReader) (r : RunRecord) → IsRecord read r
     → written read.head.regs read.head.flags read.head.fs read.head.gs read.head.fill read.steps r.end ≡ written r.start.regs r.start.flags r.start.fs r.start.gs r.start.fill r.steps r.end
-written_same read r is = cc
+written_same read r is = (let start = is.start in cc)
 
 written_text : (r : RunRecord) → written r.start.regs r.start.flags r.start.fs r.start.gs r.start.fill r.steps r.end ≡ record_text r
 unfolding written record_text start_lines

@@ -165,12 +165,7 @@ no_record = record { head = no_head; steps = []; end = None }
 
 -- what was read is this record
 pub record IsRecord (read : RecordReader) (r : RunRecord) : Type 0 where
-  pub regs : r.start.regs ≡ read.head.regs
-  pub flags : r.start.flags ≡ read.head.flags
-  pub fs : r.start.fs ≡ read.head.fs
-  pub gs : r.start.gs ≡ read.head.gs
-  pub fill : r.start.fill ≡ read.head.fill
-  pub choices : r.start.choices ≡ []
+  pub start : IsStartOf read.head [] r.start
   pub steps : r.steps ≡ read.steps
   pub end : read.end ≡ Some r.end
 
