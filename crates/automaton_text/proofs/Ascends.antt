@@ -7,7 +7,7 @@ use Rattle.std.proofs.lemmas.List.{length-append}
 use Rattle.std.proofs.lemmas.List.Folds.{list_all-append}
 use Rattle.std.proofs.lemmas.Option.{slice_get-get_or}
 use Rattle.std.proofs.Math.Seq.{get_or-append_seam}
-use Rattle.automaton_text.specs.Orderly.{ascend}
+use Rattle.memory_map.specs.Ascending.{ascend}
 use Rattle.text_fields.specs.Lines.{last_of}
 use Rattle.text_fields.proofs.LastOnes.{last_of_later}
 use Rattle.std.proofs.lemmas.Bool.{and_parts, and_from}

@@ -11,6 +11,7 @@ use Rattle.std.proofs.lemmas.List.Splits.{slice_split_at}
 use Rattle.std.proofs.lemmas.List.Sums.{AllPass-from_list_all}
 use Rattle.memory_map.specs.Image.{EXIT_PLACE}
 use Rattle.memory_map.specs.Name.{is_name}
+use Rattle.memory_map.specs.Ascending.{ascend}
 use Rattle.text_fields.specs.Decimal.{decimal_is}
 use Rattle.text_fields.specs.Fields.{no_more, then_field, word_of}
 use Rattle.text_fields.specs.Hex.{hex8, hex_bytes, hex_digit, hex_digits, hex2, hex_text}
@@ -33,7 +34,7 @@ use Rattle.automaton_text.specs.declared.automaton.Automaton.{Automaton}
 use Rattle.automaton_text.specs.declared.stage.Stage.{Stage}
 use Rattle.automaton_text.specs.declared.stage.Stage.TheVariants as stages
 use Rattle.automaton_text.specs.Laws.{OrderlyAutomataAreReadBack, fits_edge, fits_label, fits_location, fits_mark, fits_name, fits_row, is_word}
-use Rattle.automaton_text.specs.Orderly.{IsOrderly, ascend, edge_text, has_own_name, is_edge_above, is_edge_among, is_label_at, is_location_above, is_opening_above}
+use Rattle.automaton_text.specs.Orderly.{IsOrderly, edge_text, has_own_name, is_edge_above, is_edge_among, is_label_at, is_location_above, is_opening_above}
 use Rattle.automaton_text.specs.Reading.{NO_ENTRY, AutomatonSoFar, all_causes, automaton_grammar, automaton_read, automaton_step, cause_of, code_fields, code_step, count_fields, edge_step, end_fields, end_step, entry_step, has_own_suffix, header_step, import_fields, import_step, is_above, is_code, is_line_above, is_location, is_mark_above, is_marks, is_named, is_over, is_place_of, label_step, later_step, location_fields, location_or_later_step, location_step, mark_fields, mark_step, name_of, nothing, own_name, row_fields, row_of, suffix_fields, text_fields, told, version_of}
 use Rattle.automaton_text.specs.Text.{HaveRowsBy, cause_text, code_text, edge_line, end_line, entry_line, header_line, import_suffix, is_version, label_text, loc_line, open_line, row_suffix, suffix_of, text_of}
 use Rattle.automaton_text.proofs.ClearTexts.{clear_both, clear_code, is_clear, plain_cause, plain_clear, plain_name}

@@ -16,6 +16,7 @@ use Rattle.text_fields.specs.Lines.{CONTENT, COUNT, END, FIELD, HEADER, ORDER, W
 use Rattle.text_fields.proofs.Splitting.{fields_back, spaced}
 use Rattle.x86_syntax.specs.Spelling.{spelled}
 use Rattle.memory_map.specs.Image.{EXIT_PLACE}
+use Rattle.memory_map.specs.Ascending.{ascend}
 use Rattle.flow_log.specs.declared.cause.Cause.{Cause}
 use Rattle.flow_log.specs.declared.edge.Edge.{Edge}
 use Rattle.flow_log.specs.declared.edge.Label.TheVariants.{Code, Import}
@@ -25,7 +26,7 @@ use Rattle.automaton_text.specs.declared.automaton.Automaton.{Automaton}
 use Rattle.automaton_text.specs.declared.stage.Stage.{Stage}
 use Rattle.automaton_text.specs.declared.stage.Stage.TheVariants as stages
 use Rattle.automaton_text.specs.Laws.{TextsTellOrderlyAutomata}
-use Rattle.automaton_text.specs.Orderly.{IsOrderly, ascend, edge_text, has_own_name, is_edge_above, is_edge_among, is_location_above, is_opening_above}
+use Rattle.automaton_text.specs.Orderly.{IsOrderly, edge_text, has_own_name, is_edge_above, is_edge_among, is_location_above, is_opening_above}
 use Rattle.automaton_text.specs.Reading.{NO_ENTRY, AutomatonSoFar, automaton_grammar, automaton_read, automaton_step, code_fields, code_step, count_fields, edge_step, end_fields, end_step, entry_step, has_own_suffix, header_step, import_fields, import_step, is_above, is_code, is_line_above, is_location, is_mark_above, is_marks, is_over, is_place_of, label_step, later_step, location_fields, location_or_later_step, location_step, mark_fields, mark_step, nothing, step_after, told, version_of, with_edge}
 use Rattle.automaton_text.specs.Text.{HaveRowsBy, cause_text, code_text, edge_line, end_line, entry_line, header_line, is_version, label_text, loc_line, open_line, row_suffix, text_of}
 use Rattle.automaton_text.proofs.Ascends.{ascend_more, list_all_more}

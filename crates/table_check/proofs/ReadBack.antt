@@ -9,6 +9,7 @@ use Rattle.std.proofs.lemmas.Bool.Decides.{nat_tests}
 use Rattle.std.proofs.lemmas.Int.{ints}
 use Rattle.std.proofs.lemmas.List.Elements.{All-append, All-head, All-tail}
 use Rattle.memory_map.specs.Image.{Image, IsLoaded}
+use Rattle.memory_map.specs.Ascending.{ascend}
 use Rattle.text_fields.specs.Fields.{no_more}
 use Rattle.text_fields.specs.Hex.{hex8}
 use Rattle.text_fields.specs.Line.{newline}
@@ -21,7 +22,7 @@ use Rattle.partitioned_memory.specs.declared.fact.Fact.{Fact}
 use Rattle.partitioned_memory.specs.declared.fact.Dirty.{Dirty}
 use Rattle.partitioned_memory.specs.declared.fact.Counted.{Counted}
 use Rattle.partitioned_memory.specs.Areas.{area_cmp, by_area, is_left, is_marked}
-use Rattle.partitioned_memory.specs.Building.{are_well, ascend, is_block, is_counted_dirty, is_counted_fact, is_sound_dirty, is_sound_fact, lies_inside, may_hold}
+use Rattle.partitioned_memory.specs.Building.{are_well, is_block, is_counted_dirty, is_counted_fact, is_sound_dirty, is_sound_fact, lies_inside, may_hold}
 use Rattle.partitioned_memory.specs.Held.{PartsHeld, count_before, dirty_before, fact_before, interval_of_dirty, pair_of_fact, spot_at}
 use Rattle.partitioned_memory.proofs.FactSpots.{fact-spots, spot_before-is}
 use Rattle.partitioned_memory.proofs.Orders.{int_lt-from, int_lt-true}

@@ -12,6 +12,7 @@ use Rattle.std.proofs.lemmas.List.{length-append}
 use Rattle.std.proofs.lemmas.List.Elements.{All-nil, All-push, All-weaker}
 use Rattle.memory_map.specs.Image.{Image}
 use Rattle.memory_map.specs.declared.registers.Regs.{Regs}
+use Rattle.memory_map.specs.Ascending.{ascend}
 use Rattle.address_regions.specs.declared.region.Region.TheVariants.{Stack}
 use Rattle.text_fields.specs.Decimal.{decimal_is}
 use Rattle.text_fields.specs.Fields.{no_more, only_word}
@@ -29,7 +30,7 @@ use Rattle.partitioned_memory.specs.declared.fact.Fact.{Fact}
 use Rattle.partitioned_memory.specs.declared.fact.Dirty.{Dirty}
 use Rattle.partitioned_memory.specs.declared.fact.Counted.{Counted}
 use Rattle.partitioned_memory.specs.Areas.{interval_at}
-use Rattle.partitioned_memory.specs.Building.{ascend, is_block, is_sound_dirty, is_sound_fact}
+use Rattle.partitioned_memory.specs.Building.{is_block, is_sound_dirty, is_sound_fact}
 use Rattle.partitioned_memory.specs.Held.{count_before, dirty_before, fact_before}
 use Rattle.partitioned_memory.proofs.BuiltParts.{inside-of}
 use Rattle.abstract_state.specs.declared.truth.Truth.{Truth}

@@ -5,6 +5,7 @@ use Rattle.std.specs.Option.{option_map_or}
 use Rattle.bit_words.specs.Width.{is_signed}
 use Rattle.bit_words.specs.declared.width.Width.TheVariants.{B32}
 use Rattle.memory_map.specs.Image.{Image, IsLoaded}
+use Rattle.memory_map.specs.Ascending.{ascend}
 use Rattle.address_regions.specs.declared.region.Region.{Region}
 use Rattle.address_regions.specs.declared.region.Region.TheVariants.{Block}
 use Rattle.address_regions.specs.Extents.{has_room}
@@ -16,7 +17,6 @@ use Rattle.partitioned_memory.specs.declared.area.Area.TheVariants as areas
 use Rattle.partitioned_memory.specs.declared.fact.Fact.{Fact}
 use Rattle.partitioned_memory.specs.declared.fact.Dirty.{Dirty}
 use Rattle.partitioned_memory.specs.declared.fact.Counted.{Counted}
-use Rattle.partitioned_memory.specs.Building.{ascend}
 use Rattle.abstract_state.specs.declared.note.Note.{Note}
 use Rattle.abstract_state.specs.declared.note.Note.TheVariants.{Register, Word}
 use Rattle.abstract_state.specs.declared.plain.StateData.{StateData}

@@ -18,8 +18,8 @@ use bounded_values::Bounded;
 use domain_laws::{Domain, FlatNumbers, Reach};
 use flow_log::Cause;
 use image_loader::Image;
+use interval_values::Interval;
 use memory_map::{Bytes, Format, Items, Perm, Ranges, Segment, Segments, Span};
-use number_lines::Lined;
 use partitioned_memory::{Area, Parts};
 use std::alloc::Global;
 use std::test::Fail;
@@ -780,7 +780,7 @@ fn each_expansion_is_as_defined(rt: HostRuntime) -> Result<(), Fail> {
     assert_eq!(rt; bounded.as_str(), "");
     let flat = differences::<FlatNumbers>(rt.alloc(), rows::FLAT)?;
     assert_eq!(rt; flat.as_str(), "");
-    let lined = differences::<Lined>(rt.alloc(), rows::LINED)?;
-    assert_eq!(rt; lined.as_str(), "");
+    let intervals = differences::<Interval>(rt.alloc(), rows::INTERVALS)?;
+    assert_eq!(rt; intervals.as_str(), "");
     Ok(())
 }
