@@ -13,8 +13,8 @@ use Rattle.flow_worklist.proofs.visits.Visits.take_index.Goals as goal
 pub returns-in-Some-clause-index : goal.returns-in-Some-clause-index
 returns-in-Some-clause-index g c =
     let d = values_of g.D.Domain g.D.PartialEq.eq in
-    let P : Option (Box RowIndex Global) → Type 0 = λ o. IsIndexOf d (option_map (λ b. b.value) o) (states_at c.args.at c.args.rows.now) in
-    subst P (sym c.take.ensures.value ∙ c.in-Some.is) c.requires.indexed
+    let P : Option RowIndex → Type 0 = λ o. IsIndexOf d o (states_at c.args.at c.args.rows.now) in
+    subst P (sym c.in-Some.ensures.index) c.requires.indexed
 
 pub returns-in_ok-new-in-None-clause-index : goal.returns-in_ok-new-in-None-clause-index
 returns-in_ok-new-in-None-clause-index g c =
