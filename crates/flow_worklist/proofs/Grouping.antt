@@ -1,5 +1,5 @@
 -- An index of a location's rows finds one that covers a state where there is one.
-use Rattle.std.proofs.Common.{◌≡◌, ℕ, zero, suc, ◌<◌, ◌≤◌, Bool, true, false, cond, List, [], ◌∷◌, ◌++◌, length, map, Option, Some, None, refl, sym, ◌∙◌, ap, subst, inl, inr, arith, Any, Contains, slice_index_or, option_map, ◌⊎◌, ◌||◌, ◌&&◌, nat_eq}
+use Rattle.std.proofs.Common.{◌≡◌, ℕ, zero, suc, ◌<◌, ◌≤◌, Bool, true, false, cond, List, [], ◌∷◌, ◌++◌, length, map, Option, Some, None, refl, sym, ◌∙◌, ap, subst, inl, inr, arith, Any, Contains, slice_index_or, option_map, ◌⊎◌, ◌||◌, nat_eq}
 use Rattle.std.specs.Prelude.{slice_get}
 use Rattle.std.specs.List.{list_any}
 use Rattle.std.specs.Option.{option_map_or}
@@ -182,13 +182,13 @@ module _ {D : Type 0} (d : Values D) where
         by (inl same) passes =
             ap (covers_told d index rows numbers s group) same
             ∙ any-passes (covers_nth d rows numbers s) (places_at index (digest_with h.digest group.number)) place h.has passes
-        by (inr same) passes = ap (covers_told d index rows numbers s group) same ∙ placed-covers d rows numbers s place passes
+        by (inr same) passes = ap (covers_told d index rows numbers s group) same ∙ placed-covers rows numbers s place passes
 
     -- what a group answers is a row's
     told-covers : (index : RowIndex) (rows : List (Row (Known D))) (numbers : List ℕ) (group : Group) (told : Told) → covers_told d index rows numbers s group told ≡ true → list_any (covers_at d rows s) numbers ≡ true
     told-covers index rows numbers group (Numbers digest) e =
         let place = Any-from_list_any (covers_nth d rows numbers s) (places_at index (digest_with digest group.number)) e in
-        placed-covers d rows numbers s place.1 (place.4)
+        placed-covers rows numbers s place.1 (place.4)
     told-covers index rows numbers group Nothing e = absurd (cc)
     told-covers index rows numbers group Unclear e = e
 
@@ -202,7 +202,7 @@ module _ {D : Type 0} (d : Values D) where
         let group = Any-from_list_any (covers_in d index rows numbers s) index.groups.items e in
         told-covers index rows numbers (group.1) (told_at d (group.1).holders.items s) (group.4))
         (λ e.
-        let one = covers-placed d rows numbers s e in
+        let one = covers-placed rows numbers s e in
         let state : slice_get (map (λ (row : Row (Known D)). row.state) here) one.place ≡ Some (one.row).state =
         slice_get-map (λ (row : Row (Known D)). row.state) here one.place ∙ ap (option_map (λ (row : Row (Known D)). row.state)) (sym (nth-is rows numbers here one.place found) ∙ one.at) in
         let there = indexed one.place (one.row).state state in

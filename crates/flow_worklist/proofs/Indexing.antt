@@ -15,7 +15,7 @@ use Rattle.abstract_state.specs.State.{IsWellState, Known, covers_state}
 use Rattle.abstract_state.specs.Widening.{seen_of, seen_with}
 use Rattle.flow_worklist.specs.declared.visits.Visits.{Visits}
 use Rattle.flow_worklist.specs.declared.row_index.RowIndex.{RowIndex}
-use Rattle.flow_worklist.specs.Covering.{covers_at, covers_by, states_of}
+use Rattle.flow_worklist.specs.Covering.{covers_at, states_of}
 use Rattle.flow_worklist.specs.Grouping.{IsIndexOf}
 use Rattle.flow_worklist.specs.Exploring.{IsOf, IsKept, IsSeenOf, index_in, seen_in}
 

@@ -37,7 +37,7 @@ pub struct RowIndex {
 }
 
 // So many rows of one digest, or a multiple of that, are many.
-const CROWD: usize = 16;
+const CROWD: usize = 4;
 
 // Whether the row of a number covers a state.
 fn covers_at<D: Domain>(rows: &[Row<D>], s: &State<D>, number: usize) -> bool
@@ -214,7 +214,10 @@ impl RowIndex {
     {
         match self.group_of(s) {
             Some((group, digest)) => self.put(digest_with(digest, group), place),
-            None => self.push_rest(place),
+            None => {
+                self.push_rest(place)?;
+                Ok(())
+            }
         }
     }
 

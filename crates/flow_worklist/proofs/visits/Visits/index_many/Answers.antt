@@ -1,5 +1,5 @@
 -- The index is one of the states still.
-use Rattle.std.proofs.Common.{◌≡◌, Box, Global, List, Option, map, option_map, sym, ◌∙◌, ap, subst}
+use Rattle.std.proofs.Common.{Box, Global, List, Option, map, option_map, sym, ◌∙◌, ap, subst}
 use Rattle.std.specs.Prelude.{slice_get}
 use Rattle.domain_laws.specs.Made.{values_of}
 use Rattle.flow_log.specs.Log.{states_at}
