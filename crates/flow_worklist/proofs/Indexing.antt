@@ -19,7 +19,7 @@ use Rattle.flow_worklist.specs.Covering.{covers_at, states_of}
 use Rattle.flow_worklist.specs.Grouping.{IsIndexOf}
 use Rattle.flow_worklist.specs.Exploring.{IsOf, IsKept, IsSeenOf, index_in, seen_in}
 
-fold_more : {A X : Type 0} (f : A → X → A) (a : A) (xs : List X) (x : X) → fold f a (xs ++ x ∷ []) ≡ f (fold f a xs) x
+pub fold_more : {A X : Type 0} (f : A → X → A) (a : A) (xs : List X) (x : X) → fold f a (xs ++ x ∷ []) ≡ f (fold f a xs) x
 fold_more f a [] x = refl
 fold_more f a (y ∷ xs) x = fold_more f (f a y) xs x
 

@@ -9,3 +9,4 @@ pub mod Grouping
 pub mod Indexing
 pub mod Following
 pub mod Taking
+mod EdgeSets

@@ -35,8 +35,8 @@ module _ {D : Type 0} (d : Values D) where
   IsSeenOf None states = ⊤
   IsSeenOf (Some seen) states = seen ≡ seen_of d states
 
-  -- what the code keeps of a location: the numbers under which its rows stand, in order, and where there are many, what their states hold and an index
-  -- of them
+  -- what the code keeps of a location, whose states are well: the numbers under which its rows stand, in order, and where there are many, what their
+  -- states hold and an index of them
   pub record IsOf (v : Visits D) (at : ℕ) (rows : List (Row (Known D))) : Type 0 where
     pub numbers : map (slice_get rows) v.numbers.items ≡ map Some (rows_at at rows)
     pub well : Every (IsWellState d) (states_at at rows)

@@ -42,7 +42,8 @@ module _ {D : Type 0} (d : Values D) where
     pub decodes : decoded (known_run d image s m.eip) ≡ Some (i, n)
     pub bytes : take n (fetched m) ≡ take n (known_run d image s m.eip)
 
-  -- where the expansion of a well formed row has no cause, each machine state that the row describes fetches what the row knows, at code
+  -- where the expansion of a well formed row has no cause, each machine state at code that the row describes, and that fetches an instruction, fetches
+  -- what the row knows
   abbrev pub CodeIsFetched : Type 0
   CodeIsFetched =
       (image : Image) (stubs : StatedStubs) (k : ℕ) (s : Known D) (p : Places) (m : MachineState) (i : Instr) (n : ℕ) →

@@ -24,7 +24,7 @@ site_by (Some name) = Import
 unfoldable pub site_at : Image → ℕ → Site
 site_at image a = if a == EXIT_PLACE then Exit else site_by (name_at image a)
 
--- why the bytes that a row knows are no instruction: a byte that it does not know ends them, and more of them may be one; or none begins so
+-- why the bytes that a row knows are no instruction: a byte that it does not know ends them, and more of them may be one; and else, that they begin with none
 abbrev pub unlisted_cause : Bool → List ℕ → Cause
 unlisted_cause cut bytes = if cut && is_truncated bytes then causes.Code else causes.Bytes
 

@@ -1,7 +1,8 @@
-ghost use Rattle.std.specs.Prelude.{◌≡◌, ◌<◌, ◌^◌, ◌++◌, IfOk, OnOk, length, map, filter_map, option_map, option_to_list};
+ghost use Rattle.std.specs.Prelude.{◌≡◌, ◌<◌, ◌^◌, ◌++◌, ◌∷◌, [], Contains, IfOk, IsTrue, OnOk, length, map, filter_map, option_map, option_to_list};
 ghost use Rattle.std.specs.Ordering.{nat_cmp};
 ghost use Rattle.flow_log.specs.Log.{expansion_mark, marks_by, unexpanded_marks};
 ghost use Rattle.flow_log.specs.Ordered.{ordered_set};
+ghost use Rattle.flow_log.specs.Orders.{edge_cmp};
 ghost use Rattle.flow_worklist.specs.Analysis.{automaton_of, location_of, open_at, open_mark};
 ghost use Rattle.flow_worklist.specs.Exploring.{cause_unexpanded};
 
@@ -14,6 +15,7 @@ use flow_log::{Cause, Edge, sorted_edges, sorted_set};
 use image_loader::Image;
 use memory_map::{Items, Name};
 use std::alloc::Global;
+use std::cmp::Ordering;
 
 /// The automaton of a log that was made with this image. Refuses want of memory alone.
 pub fn automaton_of<D: Domain>(
@@ -81,12 +83,38 @@ fn located(alloc: Global, image: &Image, sorted: &[u32]) -> Result<Vec<Location>
     Ok(found)
 }
 
+// Whether an edge is the newest of these.
+fn is_newest(edges: &[Edge], e: &Edge) -> bool
+    ensures { IsTrue result → Contains edges.now e.now }
+{
+    match edges.last() {
+        Some(last) => match last.cmp(e) {
+            Ordering::Equal => true,
+            Ordering::Less | Ordering::Greater => false,
+        },
+        None => false,
+    }
+}
+
+// An edge more, unless it is the newest.
+fn push_edge(made: &mut Vec<Edge>, e: &Edge) -> Result<(), NoMemory>
+    ensures { OnOk result (ordered_set edge_cmp made.new.items ≡ ordered_set edge_cmp (made.old.items ++ e.now ∷ [])) }
+{
+    if is_newest(made, e) {
+        return Ok(());
+    }
+    let copy = e.copy(*made.allocator())?;
+    made.push(copy)?;
+    Ok(())
+}
+
+// Copies of edges, one of neighbours that are the same: rows of a location follow each other, and have the same edges.
 fn copies(alloc: Global, edges: &[Edge]) -> Result<Vec<Edge>, NoMemory>
-    ensures { IfOk result (λ c. c.items ≡ edges.now) }
+    ensures { IfOk result (λ c. ordered_set edge_cmp c.items ≡ ordered_set edge_cmp edges.now) }
 {
     let mut made = Vec::new(alloc);
     for e in edges {
-        made.push(e.copy(alloc)?)?;
+        push_edge(&mut made, e)?;
     }
     Ok(made)
 }

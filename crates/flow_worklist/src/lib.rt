@@ -20,7 +20,7 @@ mod visits;
 pub use automaton::automaton_of;
 pub use exploring::Limits;
 pub use gate::{Gate, OpenGate};
-pub use laws::runs_are_followed;
+pub use laws::{runs_are_followed, steps_are_sound};
 pub use log::{Log, Row};
 pub use post::{Post, expanded};
 pub use reading::Reading;

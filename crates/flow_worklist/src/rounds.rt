@@ -44,13 +44,17 @@ fn thread_count<R: Threads>(rt: &R) -> usize {
     }
 }
 
+// A third thread, and more, are worth their making for so many pieces each.
+const PIECES_EACH: usize = 8;
+
 // How many rows of a round a thread expands: whole pieces, as many as leave no piece to more than so many threads.
 fn rows_each(rows: usize, piece: usize, threads: usize) -> usize
     requires { 0 < piece }
     ensures { 0 < result }
 {
     let pieces = rows.div_ceil(piece);
-    let each = pieces.div_ceil(threads.max(1));
+    let wanted = (pieces / PIECES_EACH).max(2);
+    let each = pieces.div_ceil(threads.min(wanted).max(1));
     piece.saturating_mul(each.max(1))
 }
 
@@ -265,8 +269,8 @@ pub fn explore_in<R: Threads + Sync, D: Domain, G: Gate>(
     Ok(exploration.finish())
 }
 
-/// The log of an image with stubs over a domain, of which the first `budget` rows are expanded, in rounds of usual size. It has fewer than 2^32
-/// rows. Refuses want of memory alone.
+/// The log of an image with stubs over a domain, of which the first `budget` rows are expanded, in rounds of 4,096 rows and pieces of 64. It has
+/// fewer than 2^32 rows. Refuses want of memory alone.
 pub fn explore<R: Threads + Sync, D: Domain>(
     rt: &R,
     alloc: Global,

@@ -18,5 +18,5 @@ returns g c =
     same_automaton _ _ _ _ _ _ _ _
     (c.location-entry.ensures ∙ entry_at c.rows.result.now c.index-rows-0.result (rw c.rows.ensures c.requires.some) c.index-rows-0.is ∙ ap entry_of c.rows.ensures)
     (c.from_vec.ensures ∙ c.in_ok-locations.ensures ∙ ap (λ (rows : List (Row (Known g.row.D.Denot))). map (location_of image) (ordered_set nat_cmp (map (λ (row : Row (Known g.row.D.Denot)). row.location) rows))) c.rows-2.ensures)
-    (c.from_vec-2.ensures ∙ c.sorted_edges-edges.ensures ∙ ap (ordered_set edge_cmp) (c.in_ok-copies.ensures ∙ c.edges.ensures))
+    (c.from_vec-2.ensures ∙ c.sorted_edges-edges.ensures ∙ c.in_ok-copies.ensures ∙ ap (ordered_set edge_cmp) c.edges.ensures)
     (c.from_vec-3.ensures ∙ c.first_marks-marks.ensures ∙ ap first_marks c.in_ok-marks.ensures)
