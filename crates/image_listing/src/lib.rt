@@ -10,4 +10,6 @@ mod unset;
 pub use listing::print_list;
 
 #[cfg(test)]
+mod loader_tests;
+#[cfg(test)]
 mod tests;

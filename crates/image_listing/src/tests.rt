@@ -1,25 +1,15 @@
 use super::*;
+use crate::loader_tests::{bound, stubs_of};
 use demo_images::{Import, form_d, form_p};
-use image_loader::load;
 use std::alloc::Global;
 use std::test::Fail;
-use stub_file::read_stubs;
 
 // The listing of a file with the stubs of a stub file.
 fn listing(alloc: Global, file: &[u8], stubs: &[u8]) -> Result<Vec<u8>, Fail> {
-    let stubs = match read_stubs(alloc, stubs) {
-        Ok(stubs) => stubs,
-        Err(_) => return Err(Fail::from("no stubs")),
-    };
-    let loaded = match load(alloc, file) {
-        Ok(loaded) => loaded,
-        Err(_) => return Err(Fail::from("refused")),
-    };
-    match loaded.bind(alloc, &stubs) {
-        Ok(image) => match print_list(alloc, &image, &stubs) {
-            Ok(text) => Ok(text),
-            Err(_) => Err(Fail::from("no memory")),
-        },
+    let stubs = stubs_of(alloc, stubs)?;
+    let image = bound(alloc, file, &stubs)?;
+    match print_list(alloc, &image, &stubs) {
+        Ok(text) => Ok(text),
         Err(_) => Err(Fail::from("no memory")),
     }
 }

@@ -15,6 +15,3 @@ pub use image::Image;
 pub use laws::{images_can_start, loaded_are_few};
 pub use loaded::Loaded;
 pub use loader::load;
-
-#[cfg(test)]
-mod tests;

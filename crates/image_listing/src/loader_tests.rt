@@ -1,7 +1,8 @@
 ghost use Rattle.std.specs.Prelude.{◌≤◌, length};
 
-use super::*;
+// Files that image_loader loads, binds or refuses.
 use demo_images::{Import, form_d, form_e, form_p};
+use image_loader::{Image, LoadFault, fault_number, load};
 use memory_map::Format;
 use std::alloc::{AllocError, Global};
 use std::process::Abort;
@@ -130,17 +131,17 @@ fn each_field_counts(rt: HostRuntime) -> Result<(), Fail> {
     Ok(())
 }
 
-fn stubs_of(alloc: Global, text: &[u8]) -> Result<Stubs, Fail> {
+pub fn stubs_of(alloc: Global, text: &[u8]) -> Result<Stubs, Fail> {
     match read_stubs(alloc, text) {
         Ok(stubs) => Ok(stubs),
         Err(_) => Err(Fail::from("no stubs")),
     }
 }
 
-fn bound(alloc: Global, file: &[u8], stubs: &[u8]) -> Result<Image, Fail> {
-    let stubs = stubs_of(alloc, stubs)?;
+// The image of a file, bound to stubs.
+pub fn bound(alloc: Global, file: &[u8], stubs: &Stubs) -> Result<Image, Fail> {
     match load(alloc, file) {
-        Ok(loaded) => match loaded.bind(alloc, &stubs) {
+        Ok(loaded) => match loaded.bind(alloc, stubs) {
             Ok(image) => Ok(image),
             Err(_) => Err(Fail::from("no memory")),
         },
@@ -172,7 +173,8 @@ fn bound_file(alloc: Global, weak: bool, kind: u8, has_stub: bool) -> Result<Ima
     match form_d(alloc, &code, &names) {
         Ok(mut file) => {
             put(&mut file, 163, &[kind]);
-            bound(alloc, &file, if has_stub { STUB } else { b"" })
+            let stubs = stubs_of(alloc, if has_stub { STUB } else { b"" })?;
+            bound(alloc, &file, &stubs)
         }
         Err(_) => Err(Fail::from("no memory")),
     }
@@ -201,13 +203,14 @@ fn files_are_loaded_at_their_addresses(rt: HostRuntime) -> Result<(), Fail> {
     let alloc = rt.alloc();
     let mut file = self_jump(alloc)?;
     put(&mut file, 16, &[3]);
-    let image = bound(alloc, &file, b"")?;
+    let stubs = Stubs::none(alloc);
+    let image = bound(alloc, &file, &stubs)?;
     assert_eq!(rt; image.entry(), 0x0844_8000);
     assert_eq!(rt;
         image.fetch(0x0844_8000).as_slice(),
         [0xEB, 0xFE].as_slice()
     );
-    let image = bound(alloc, &pe_exit(alloc)?, b"")?;
+    let image = bound(alloc, &pe_exit(alloc)?, &stubs)?;
     assert_eq!(rt; image.entry(), 0x0040_1000);
     assert_eq!(rt; image.segments().as_slice().len(), 3);
     assert_eq!(rt; image.segments().byte_at(0x0040_2034), Some(0x10));
