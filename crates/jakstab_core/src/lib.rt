@@ -25,6 +25,10 @@ mod laws;
 #[cfg(test)]
 mod list_tests;
 #[cfg(test)]
+mod machine_tests;
+#[cfg(test)]
+mod made_images;
+#[cfg(test)]
 mod memory_tests;
 mod recover;
 #[cfg(test)]

@@ -21,6 +21,3 @@ pub use machine::Machine;
 pub use outcome::Outcome;
 pub use start_fault::StartFault;
 pub use start_file::StartFile;
-
-#[cfg(test)]
-mod tests;

@@ -1,14 +1,13 @@
-use crate::{Machine, Outcome, StartFault, StartFile};
+// Starts and single steps of x86_machine.
+use crate::made_images::{bytes_of, image_of, import_named};
 use bitflags::Flags as _;
 use image_loader::Image;
-use memory_map::{
-    BadKind, Bytes, Choice, FaultKind, Fill, Format, ImportName, Items, Name, Perm, Ranges,
-    Segment, Segments, Span,
-};
+use memory_map::{BadKind, Bytes, Choice, FaultKind, Fill, Format, Items, Perm, Segment, Span};
 use std::alloc::Global;
 use std::process::Abort;
 use std::test::Fail;
 use stub_file::{Stubs, read_stubs};
+use x86_machine::{Machine, Outcome, StartFault, StartFile};
 
 /// Start files: what they state, and what comes of it. All numbers are hexadecimal: a register, the bases of FS and GS, and
 /// bytes filled in from an address on; of the result an address with the bytes there. What is not stated is 0, but ESP is
@@ -119,25 +118,12 @@ const STEPS: &str = "\
 2|08048000|BC FF FF 0F 00 E9 06 80 FB E7|args = 0, reply = 'any'|||Faulted NoStack|
 2|08048000|BC 00 00 10 00 E9 06 80 FB E7|args = 4, reply = 'enter', enter_arg = 0|||Faulted Write|";
 
-fn bytes_of(alloc: Global, words: &str) -> Result<Vec<u8>, Fail> {
-    let mut bytes = Vec::new(alloc);
-    for word in words.split_whitespace() {
-        bytes.push(u8::from_str_radix(word, 16)?)?;
-    }
-    Ok(bytes)
-}
-
 fn filled(alloc: Global, words: &str) -> Result<Bytes, Fail> {
     let mut bytes = Vec::new(alloc);
     for word in words.split('.') {
         bytes.push(u8::from_str_radix(word, 16)?)?;
     }
     Ok(Bytes::from_vec(bytes))
-}
-
-fn name(alloc: Global, text: &str) -> Result<ImportName, Fail> {
-    let name = Name::new(Vec::from_slice(alloc, text.as_bytes())?).ok_or("a name")?;
-    Ok(ImportName { name, zero: false })
 }
 
 fn segment(alloc: Global, low: u32, byte: u8, count: usize, write: bool) -> Result<Segment, Fail> {
@@ -163,17 +149,9 @@ fn image(alloc: Global, entry: u32, code: &str, format: Format) -> Result<Image,
         size: 4,
     })?;
     let mut names = Vec::new(alloc);
-    names.push(name(alloc, "f")?)?;
-    names.push(name(alloc, "g")?)?;
-    let image = Image::new(
-        Segments::new(segments)?,
-        Ranges::from_vec(unset),
-        entry,
-        format,
-        Items::from_vec(names),
-        16,
-    );
-    Ok(image.ok_or("an image")?)
+    names.push(import_named(alloc, "f")?)?;
+    names.push(import_named(alloc, "g")?)?;
+    image_of(segments, unset, entry, format, names)
 }
 
 fn stubs(alloc: Global, stub: &str) -> Result<Stubs, Fail> {
