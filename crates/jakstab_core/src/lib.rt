@@ -23,6 +23,8 @@ mod interval_tests;
 mod known_code_tests;
 mod laws;
 #[cfg(test)]
+mod lifter_tests;
+#[cfg(test)]
 mod list_tests;
 #[cfg(test)]
 mod machine_tests;

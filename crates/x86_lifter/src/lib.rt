@@ -16,7 +16,5 @@ mod products;
 mod shifts;
 mod stack;
 mod strings;
-#[cfg(test)]
-mod tests;
 
 pub use lifting::lift;

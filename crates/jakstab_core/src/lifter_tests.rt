@@ -1,4 +1,5 @@
-use crate::lift;
+// Single steps by the lists of x86_lifter.
+use crate::made_images::{bytes_of, register_number};
 use bit_words::{Flags, Width};
 use bitflags::Flags as _;
 use memory_map::{Choice, FaultKind, Items, Regs};
@@ -7,6 +8,7 @@ use std::alloc::Global;
 use std::process::Abort;
 use std::test::Fail;
 use x86_decoder::decode;
+use x86_lifter::lift;
 use x86_semantics::{Operation, operation_of};
 use x86_syntax::Mnemonic;
 
@@ -401,14 +403,6 @@ F0 0F C0 0D 10 00 00 10|ecx=2 10000010=11223301 f=0|10000010=11223303 ecx=1 f=2
 0F C1 08|eax=20000000 ecx=1|! Write
 0F C0 08|eax=0|! Read";
 
-fn bytes_of(alloc: Global, words: &str) -> Result<Vec<u8>, Fail> {
-    let mut bytes = Vec::new(alloc);
-    for word in words.split_whitespace() {
-        bytes.push(u8::from_str_radix(word, 16)?)?;
-    }
-    Ok(bytes)
-}
-
 fn choice_of(alloc: Global, flags: u8, eax: u32) -> Choice {
     Choice {
         flags,
@@ -471,25 +465,6 @@ fn start(alloc: Global) -> Result<Cells, Fail> {
         Block::new(0x2000_0000, zeros(alloc, 64)?, false, false),
     )?;
     Ok(cells)
-}
-
-fn register_number(name: &str) -> Option<u8> {
-    let names = [
-        ("eax", 0),
-        ("ecx", 1),
-        ("edx", 2),
-        ("ebx", 3),
-        ("esp", 4),
-        ("ebp", 5),
-        ("esi", 6),
-        ("edi", 7),
-    ];
-    for (known, r) in names {
-        if known == name {
-            return Some(r);
-        }
-    }
-    None
 }
 
 // Sets what one word of a line says; what a choice has is no part of the state.
