@@ -37,6 +37,3 @@ pub use seen::{Holder, Seen};
 pub use state::State;
 pub use stored::Stored;
 pub use truth::Truth;
-
-#[cfg(test)]
-mod tests;

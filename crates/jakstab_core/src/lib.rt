@@ -42,6 +42,8 @@ mod sample_files;
 mod sample_tests;
 #[cfg(test)]
 mod second_list_tests;
+#[cfg(test)]
+mod state_tests;
 mod status;
 mod summary;
 #[cfg(test)]

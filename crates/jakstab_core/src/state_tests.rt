@@ -1,51 +1,29 @@
+// States of abstract_state.
 mod plain;
 
-use super::*;
-use bit_words::{NoMemory, Width};
+use crate::made_images::{image_of, rising};
+use abstract_state::{State, Truth, Truths};
+use bit_words::Width;
 use domain_laws::FlatNumbers;
 use image_loader::Image;
-use memory_map::{Bytes, Format, Items, Perm, Ranges, Segment, Segments};
+use memory_map::{Format, Perm};
 use std::alloc::Global;
 use std::test::Fail;
 use x86_syntax::Cond;
 
 // Four bytes at 08048000 that may be written, and four at 08049000 that may not.
-fn image(alloc: Global) -> Result<Option<Image>, NoMemory> {
+fn image(alloc: Global) -> Result<Image, Fail> {
     let mut list = Vec::new(alloc);
-    for (low, perm) in [
-        (0x0804_8000, Perm::READ | Perm::WRITE),
-        (0x0804_9000, Perm::READ),
-    ] {
-        let mut bytes = Vec::new(alloc);
-        for b in [1u8, 2, 3, 4] {
-            bytes.push(b)?;
-        }
-        list.push(Segment {
-            low,
-            bytes: Bytes::from_vec(bytes),
-            perm,
-        })?;
-    }
-    match Segments::new(list) {
-        Ok(segments) => Ok(Image::new(
-            segments,
-            Ranges::from_vec(Vec::new(alloc)),
-            0x0804_8000,
-            Format::Elf,
-            Items::from_vec(Vec::new(alloc)),
-            16,
-        )),
-        Err(_) => Ok(None),
-    }
+    list.push(rising(alloc, 0x0804_8000, 4, 1, Perm::new(true, false))?)?;
+    list.push(rising(alloc, 0x0804_9000, 4, 1, Perm::new(false, false))?)?;
+    let unset = Vec::new(alloc);
+    image_of(list, unset, 0x0804_8000, Format::Elf, Vec::new(alloc))
 }
 
 #[test]
 fn loads_by_the_address(rt: HostRuntime) -> Result<(), Fail> {
     let alloc = rt.alloc();
-    let Some(image) = image(alloc)? else {
-        assert!(rt; false, "no image");
-        return Ok(());
-    };
+    let image = image(alloc)?;
     let start = State::start(alloc, &image)?;
     for (address, want) in [
         (
@@ -70,10 +48,7 @@ fn loads_by_the_address(rt: HostRuntime) -> Result<(), Fail> {
 #[test]
 fn a_start_covers_itself_and_nothing_unknown(rt: HostRuntime) -> Result<(), Fail> {
     let alloc = rt.alloc();
-    let Some(image) = image(alloc)? else {
-        assert!(rt; false, "no image");
-        return Ok(());
-    };
+    let image = image(alloc)?;
     let start: State<FlatNumbers> = State::start(alloc, &image)?;
     let mut other = start.copy()?;
     other.set_direction(Truth::Unknown);

@@ -1,6 +1,14 @@
-use super::*;
+// States as plain lists.
+use super::image;
+use abstract_state::{BuildFault, Note, State, StateData, Truth};
 use address_regions::Region;
+use bit_words::Width;
+use domain_laws::FlatNumbers;
+use image_loader::Image;
+use memory_map::Items;
 use partitioned_memory::{Area, Counted, Dirty, Fact};
+use std::alloc::Global;
+use std::test::Fail;
 
 type FactRow = (Area, i64, Width, FlatNumbers);
 
@@ -371,10 +379,7 @@ fn builds(alloc: Global, image: &Image, plain: &StateData<FlatNumbers>) -> Resul
 #[test]
 fn states_of_plain_lists(rt: HostRuntime) -> Result<(), Fail> {
     let alloc = rt.alloc();
-    let Some(image) = image(alloc)? else {
-        assert!(rt; false, "no image");
-        return Ok(());
-    };
+    let image = image(alloc)?;
     for (name, lists, want) in &LISTS {
         let plain = plain_of(alloc, lists)?;
         assert!(rt; builds(alloc, &image, &plain)? == *want, "{name}");
@@ -386,10 +391,7 @@ fn states_of_plain_lists(rt: HostRuntime) -> Result<(), Fail> {
 #[test]
 fn a_start_as_plain_lists(rt: HostRuntime) -> Result<(), Fail> {
     let alloc = rt.alloc();
-    let Some(image) = image(alloc)? else {
-        assert!(rt; false, "no image");
-        return Ok(());
-    };
+    let image = image(alloc)?;
     let start: State<FlatNumbers> = State::start(alloc, &image)?;
     let plain = start.to_plain()?;
     assert!(rt; plain.regs.as_slice() == [FlatNumbers::Any; 8].as_slice());
