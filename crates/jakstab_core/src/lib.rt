@@ -32,7 +32,11 @@ mod machine_tests;
 mod made_images;
 #[cfg(test)]
 mod memory_tests;
+#[cfg(test)]
+mod record_tests;
 mod recover;
+#[cfg(test)]
+mod replay_tests;
 #[cfg(test)]
 mod run_tests;
 mod running;

@@ -31,8 +31,3 @@ pub use run::run_machine;
 pub use run_fault::RunFault;
 pub use start_reader::{StartReader, read_start};
 pub use verdict::{RunKind, Verdict, verdict_line};
-
-#[cfg(test)]
-mod run_tests;
-#[cfg(test)]
-mod text_tests;

@@ -1,4 +1,5 @@
-use crate::*;
+// Texts of start files and of records, of run_replayer.
+use run_replayer::{print_record, read_record, read_start};
 use std::alloc::Global;
 use std::test::Fail;
 use text_fields::TextFault;

@@ -1,23 +1,18 @@
-use crate::*;
+// Runs and replays of run_replayer.
+use crate::made_images::{bound, code_image};
 use automaton_text::{Automaton, read_automaton};
-use demo_images::{Import, form_d, form_e};
-use image_loader::{Image, load};
+use demo_images::{Import, form_d};
+use image_loader::Image;
 use memory_map::{Bytes, Choice, Fill, Items};
+use run_replayer::{
+    EndWord, RunFault, RunKind, Verdict, print_record, read_record, replay, run_machine,
+    verdict_line,
+};
 use std::alloc::Global;
 use std::test::Fail;
 use stub_file::{Stubs, read_stubs};
 use text_fields::TextFault;
 use x86_machine::{StartFault, StartFile};
-
-fn bound(alloc: Global, file: &[u8], stubs: &Stubs) -> Result<Image, Fail> {
-    match load(alloc, file) {
-        Ok(loaded) => match loaded.bind(alloc, stubs) {
-            Ok(image) => Ok(image),
-            Err(_) => Err(Fail::from("no memory")),
-        },
-        Err(_) => Err(Fail::from("refused")),
-    }
-}
 
 fn no_items<T>(alloc: Global) -> Items<T> {
     Items::from_vec(Vec::new(alloc))
@@ -28,10 +23,7 @@ fn image_of(alloc: Global, code: &[u8]) -> Result<Image, Fail> {
     if code.len() > 64 {
         return Err(Fail::from("long"));
     }
-    match form_e(alloc, code, 5) {
-        Ok(file) => bound(alloc, &file, &Stubs::none(alloc)),
-        Err(_) => Err(Fail::from("no memory")),
-    }
+    code_image(alloc, code, 5)
 }
 
 // ESP, FS and GS; all other words are zeros.
