@@ -51,6 +51,8 @@ mod state_tests;
 mod status;
 mod summary;
 #[cfg(test)]
+mod table_check_tests;
+#[cfg(test)]
 mod table_tests;
 mod tables;
 #[cfg(test)]

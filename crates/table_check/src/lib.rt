@@ -14,8 +14,6 @@ mod reader;
 mod row_index;
 mod stage;
 mod table;
-#[cfg(test)]
-mod tests;
 mod text_laws;
 
 pub use checking::{TableAnswer, check_table};

@@ -1,7 +1,7 @@
 // Texts of tables that are read, and printed again.
-use crate::tests::image;
-use crate::{print_table, read_table};
+use crate::table_check_tests::image;
 use std::test::Fail;
+use table_check::{print_table, read_table};
 
 static TEXTS: [&[u8]; 17] = [
     b"jakstab-table 1\nk 1\nend 0\n",

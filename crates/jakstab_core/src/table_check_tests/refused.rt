@@ -1,9 +1,9 @@
 // Texts of tables that are refused, with the line and the kind of their first fault.
-use crate::read_table;
-use crate::tests::image;
+use crate::table_check_tests::image;
 use std::alloc::{AllocError, Global};
 use std::process::Abort;
 use std::test::Fail;
+use table_check::read_table;
 use text_fields::TextFault;
 
 // Two lines.

@@ -1,8 +1,8 @@
 // Tables of images that are checked.
-use crate::tests::image_of;
-use crate::{TableAnswer, check_table, read_table};
+use crate::made_images::code_image;
 use std::test::Fail;
 use stub_file::Stubs;
+use table_check::{TableAnswer, check_table, read_table};
 
 // Code, the flags of its segment, the text of a table, and the answer.
 static CASES: [(&[u8], u32, &[u8], TableAnswer); 41] = [
@@ -300,7 +300,7 @@ fn tables_are_checked(rt: HostRuntime) -> Result<(), Fail> {
     let alloc = rt.alloc();
     let stubs = Stubs::none(alloc);
     for (code, flags, text, want) in &CASES {
-        let image = image_of(alloc, &code[..code.len().min(4096)], *flags)?;
+        let image = code_image(alloc, &code[..code.len().min(4096)], *flags)?;
         match read_table(alloc, &image, text) {
             Ok(table) => {
                 if table.k < 1 || 1024 < table.k {
