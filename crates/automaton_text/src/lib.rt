@@ -12,8 +12,6 @@ mod places;
 mod print;
 mod reader;
 mod stage;
-#[cfg(test)]
-mod tests;
 mod versions;
 
 pub use automaton::{Automaton, Location, OpenMark, first_marks, sorted_marks};

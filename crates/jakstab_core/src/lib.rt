@@ -4,6 +4,8 @@
 #![tactic(auto)]
 
 #[cfg(test)]
+mod automaton_text_tests;
+#[cfg(test)]
 mod calls;
 #[cfg(test)]
 mod decode_tests;

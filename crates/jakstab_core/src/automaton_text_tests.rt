@@ -1,7 +1,10 @@
+// Texts of automata, of automaton_text.
 ghost use Rattle.std.specs.Prelude.{◌≡◌, IfOk, true};
 ghost use Rattle.automaton_text.specs.Text.{AreSpelled, HaveRowsBy, is_version};
 
-use crate::*;
+use automaton_text::{
+    Automaton, Location, OpenMark, first_marks, print_automaton, read_automaton, sorted_marks,
+};
 use flow_log::{Cause, Edge, Label};
 use memory_map::{Items, Name};
 use std::alloc::{AllocError, Global};
