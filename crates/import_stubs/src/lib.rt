@@ -12,6 +12,3 @@ mod writes;
 
 pub use expand::expand_stub;
 pub use laws::calls_are_sound;
-
-#[cfg(test)]
-mod tests;

@@ -50,7 +50,11 @@ mod sample_tests;
 mod second_list_tests;
 #[cfg(test)]
 mod state_tests;
+#[cfg(test)]
+mod state_texts;
 mod status;
+#[cfg(test)]
+mod stub_call_tests;
 mod summary;
 #[cfg(test)]
 mod table_check_tests;
@@ -62,6 +66,8 @@ mod tests;
 #[cfg(test)]
 mod thread_tests;
 mod top;
+#[cfg(test)]
+mod transfer_tests;
 mod work;
 
 pub use flow_worklist::{Gate, OpenGate};

@@ -24,6 +24,5 @@ pub mod OwnRules
 pub mod SoundOperations
 pub mod KeepingOperations
 pub mod Soundness
-pub mod BlockPlaces
 pub mod Fetching
 mod Targeting

@@ -19,8 +19,6 @@ mod shifts;
 mod site;
 mod sound;
 mod strings;
-#[cfg(test)]
-mod tests;
 mod values;
 
 pub use code::{KnownCode, known_code};

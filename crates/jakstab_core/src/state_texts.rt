@@ -1,122 +1,76 @@
-ghost use Rattle.std.specs.Prelude.{IfOk, List, pos, ◌≡◌};
+// States, and where a row leads from one, as texts, over every domain.
+ghost use Rattle.std.specs.Prelude.{◌≡◌, ◌≤◌, IfOk, List, pos};
 ghost use Rattle.bit_words.specs.declared.width.Width.TheVariants.{B32};
 ghost use Rattle.domain_laws.specs.Made.{values_of};
-ghost use Rattle.bit_words.specs.declared.op.Op.TheVariants.{Add};
+ghost use Rattle.import_semantics.specs.StubDoes.{LARGEST_BLOCK};
 ghost use Rattle.partitioned_memory.specs.declared.fact.Counted.{Counted};
 ghost use Rattle.partitioned_memory.specs.Held.{counted_more};
 ghost use Rattle.partitioned_memory.specs.Well.{MayHold};
 
-mod known_rows;
-mod rows;
-
-use crate::values::{above, anything, below, low_number, number, register_value, set_register};
-use crate::{KnownCode, expand_instr, known_code};
+use crate::made_images::{REGISTERS, bytes_of, register_number};
 use abstract_state::{Expansion, Note, Path, Seen, State, Stored, Truth, Truths};
 use address_regions::Region;
 use bit_words::{Op, Width};
-use bounded_values::Bounded;
-use domain_laws::{Domain, FlatNumbers, Reach};
+use domain_laws::{Domain, Reach};
 use flow_log::Cause;
 use image_loader::Image;
-use memory_map::{Bytes, Format, Items, Perm, Ranges, Segment, Segments, Span};
-use number_lines::Lined;
 use partitioned_memory::{Area, Parts};
 use std::alloc::Global;
 use std::test::Fail;
+use transfer_functions::expand_instr;
 use x86_decoder::decode;
 
 // Where each instruction stands.
 const AT: u32 = 0x0804_8000;
 
-// 16 bytes that begin as 0, and 16 that begin as anything.
-const ZEROED: Region = Region::Block {
-    site: 0x0804_8100,
-    size: 16,
-    zeroed: true,
-};
+// The sites of the blocks `z`, `p` and `new`, and the size of each block.
+const ZEROED_SITE: u32 = 0x0804_8100;
 
-const PLAIN: Region = Region::Block {
-    site: 0x0804_8200,
-    size: 16,
-    zeroed: false,
-};
+const PLAIN_SITE: u32 = 0x0804_8200;
 
-const NAMES: [(&str, u8); 8] = [
-    ("eax", 0),
-    ("ecx", 1),
-    ("edx", 2),
-    ("ebx", 3),
-    ("esp", 4),
-    ("ebp", 5),
-    ("esi", 6),
-    ("edi", 7),
-];
+const CALL_SITE: u32 = 0x0804_8123;
 
-// ---- the image
+const BLOCK_SIZE: u32 = 16;
 
-// Each segment's address, its size, its first byte, of which the others follow, and whether it may be written and executed.
-const SEGMENTS: [(u32, u8, u8, bool, bool); 12] = [
-    (0x0000_1000, 16, 0x30, true, false),
-    (0x0804_9000, 16, 0x10, true, false),
-    (0x0804_9010, 16, 0x20, false, false),
-    (0x0804_A000, 4, 0x50, true, false),
-    (0x0804_A004, 4, 0x54, false, false),
-    (0x0804_A008, 8, 0x58, true, false),
-    (0x0804_A010, 16, 0x60, true, false),
-    (0x0804_C000, 20, 0x70, true, true),
-    (0x0804_C014, 4, 0x84, false, true),
-    (0x0804_C018, 4, 0x88, true, false),
-    (0x0804_D000, 8, 0x90, true, true),
-    (0xEFFF_FFF0, 16, 0x40, true, false),
-];
+// ---- values that a state may hold
 
-// The bytes that are not known at the start.
-const UNSET: [(u32, u32); 2] = [(0x0804_9008, 2), (0x0804_D004, 2)];
-
-fn segment(alloc: Global, low: u32, size: u8, first: u8, perm: Perm) -> Result<Segment, Fail> {
-    let mut bytes = Vec::new(alloc);
-    for i in 0..size {
-        bytes.push(first.wrapping_add(i))?;
-    }
-    Ok(Segment {
-        low,
-        bytes: Bytes::from_vec(bytes),
-        perm,
-    })
+fn number<D: Domain>(s: &State<D>, w: Width, n: u32) -> D
+    ensures { MayHold (values_of D.Domain.own D.eq) s.now.parts.blocks w result }
+{
+    let low = w.cut(n);
+    D::number(low)
 }
 
-fn image(alloc: Global, format: Format) -> Result<Image, Fail> {
-    let mut list = Vec::new(alloc);
-    for (low, size, first, write, execute) in SEGMENTS {
-        let perm = Perm::new(write, execute);
-        list.push(segment(alloc, low, size, first, perm)?)?;
-    }
-    let segments = Segments::new(list)?;
-    let mut unset = Vec::new(alloc);
-    for (low, size) in UNSET {
-        unset.push(Span { low, size })?;
-    }
-    let image = Image::new(
-        segments,
-        Ranges::from_vec(unset),
-        0x0000_1000,
-        format,
-        Items::from_vec(Vec::new(alloc)),
-        16,
-    );
-    Ok(image.ok_or("an image")?)
+fn anything<D: Domain>(s: &State<D>) -> D
+    ensures { MayHold (values_of D.Domain.own D.eq) s.now.parts.blocks B32 result }
+{
+    D::any()
+}
+
+fn stack_place<D: Domain>(s: &State<D>, offset: i32) -> D
+    ensures { MayHold (values_of D.Domain.own D.eq) s.now.parts.blocks B32 result }
+{
+    D::place(Region::Stack, offset)
+}
+
+fn moved<D: Domain>(s: &State<D>, op: Op, a: D, by: D) -> D
+    requires from { MayHold (values_of D.Domain.own D.eq) s.now.parts.blocks B32 a }
+    requires by { MayHold (values_of D.Domain.own D.eq) s.now.parts.blocks B32 by }
+    ensures { MayHold (values_of D.Domain.own D.eq) s.now.parts.blocks B32 result }
+{
+    D::eval(op, Width::B32, a, by, 16)
+}
+
+// The first byte of a block, once the block is counted.
+fn block_place<D: Domain>(site: u32, size: u32, zeroed: bool) -> D
+    requires { size ≤ LARGEST_BLOCK }
+    ensures value { result ≡ D.place (Region.Block site size zeroed) (pos 0) }
+    ensures holds { (blocks : List Counted) → MayHold (values_of D.Domain.own D.eq) (counted_more (Region.Block site size zeroed) blocks) B32 result }
+{
+    D::place(Region::Block { site, size, zeroed }, 0)
 }
 
 // ---- the state before, by its text
-
-fn register_number(name: &str) -> Option<u8> {
-    for (known, r) in NAMES {
-        if known == name {
-            return Some(r);
-        }
-    }
-    None
-}
 
 fn width_named(size: &str) -> Option<Width> {
     if size == "1" {
@@ -136,107 +90,135 @@ fn base_value<D: Domain>(s: &State<D>, text: &str) -> Result<D, Fail>
     ensures { IfOk result (λ v. MayHold (values_of D.Domain.own D.eq) s.now.parts.blocks B32 v) }
 {
     if text == "any" {
-        return Ok(anything());
+        return Ok(anything(s));
     }
     match register_number(text) {
-        Some(r) => Ok(register_value(s, r)),
+        Some(r) => Ok(s.register(r)),
         None => {
             let n = u32::from_str_radix(text, 16)?;
-            Ok(number(n))
+            Ok(number(s, Width::B32, n))
         }
     }
 }
 
-// The same, or with a number added to it or taken off.
+// Such a value with a number added or taken off.
+fn moved_value<D: Domain>(s: &State<D>, op: Op, base: &str, by: &str) -> Result<D, Fail>
+    ensures { IfOk result (λ v. MayHold (values_of D.Domain.own D.eq) s.now.parts.blocks B32 v) }
+{
+    let v = base_value(s, base)?;
+    let n = u32::from_str_radix(by, 16)?;
+    let n = number(s, Width::B32, n);
+    Ok(moved(s, op, v, n))
+}
+
+fn stack_value<D: Domain>(s: &State<D>, offset: &str) -> Result<D, Fail>
+    ensures { IfOk result (λ v. MayHold (values_of D.Domain.own D.eq) s.now.parts.blocks B32 v) }
+{
+    let offset = i32::from_str_radix(offset, 16)?;
+    Ok(stack_place(s, offset))
+}
+
+// One of these, or a place in the stack.
 fn value_named<D: Domain>(s: &State<D>, text: &str) -> Result<D, Fail>
     ensures { IfOk result (λ v. MayHold (values_of D.Domain.own D.eq) s.now.parts.blocks B32 v) }
 {
-    match text.split_once('-') {
-        Some((base, down)) => {
-            let v = base_value(s, base)?;
-            let n = number(u32::from_str_radix(down, 16)?);
-            Ok(below(v, n, 16))
-        }
-        None => match text.split_once('+') {
-            Some((base, up)) => {
-                let v = base_value(s, base)?;
-                let n = number(u32::from_str_radix(up, 16)?);
-                Ok(above(v, n, 16))
-            }
-            None => base_value(s, text),
-        },
+    if let Some(offset) = text.strip_prefix('s') {
+        return stack_value(s, offset);
+    }
+    if let Some((base, down)) = text.split_once('-') {
+        return moved_value(s, Op::Sub, base, down);
+    }
+    match text.split_once('+') {
+        Some((base, up)) => moved_value(s, Op::Add, base, up),
+        None => base_value(s, text),
     }
 }
 
-fn set_value<D: Domain>(s: &mut State<D>, name: &str, text: &str) -> Result<(), Fail> {
-    let r = register_number(name).ok_or("a register")?;
-    let v = value_named(s, text)?;
-    set_register(s, r, v);
-    Ok(())
-}
-
-// A number in memory.
-fn put<D: Domain>(
+// The state after a store that is done.
+fn stored<D: Domain>(
     alloc: Global,
     image: &Image,
+    s: State<D>,
+    w: Width,
+    at: D,
+    v: D,
+) -> Result<State<D>, Fail>
+    requires at { MayHold (values_of D.Domain.own D.eq) s.parts.blocks B32 at }
+    requires value { MayHold (values_of D.Domain.own D.eq) s.parts.blocks w v }
+{
+    let mut p = Path::start(alloc, s);
+    let done = p.store(image, w, at, v)?;
+    (done == Stored::Done).then_some(()).ok_or("a store")?;
+    let Path { state, .. } = p;
+    Ok(state)
+}
+
+// A number of a width in memory, or a value in a word where no width is told.
+fn put<D: Domain>(
+    setting: Setting<'_>,
     s: State<D>,
     place: &str,
     size: &str,
     text: &str,
 ) -> Result<State<D>, Fail> {
-    let w = width_named(size).ok_or("a width")?;
-    let v = low_number(w, u32::from_str_radix(text, 16)?);
+    let Setting { alloc, image, .. } = setting;
     let at = value_named(&s, place)?;
-    let mut p = Path::start(alloc, s);
-    let stored = p.store(image, w, at, v)?;
-    (stored == Stored::Done).then_some(()).ok_or("a store")?;
-    let Path { state, .. } = p;
-    Ok(state)
+    if size.is_empty() {
+        let v = value_named(&s, text)?;
+        return stored(alloc, image, s, Width::B32, at, v);
+    }
+    let w = width_named(size).ok_or("a width")?;
+    let v = number(&s, w, u32::from_str_radix(text, 16)?);
+    stored(alloc, image, s, w, at, v)
 }
 
-// A place in a block of a region, once the block is counted.
-fn block_place<D: Domain>(region: Region, n: u32) -> D
-    ensures value { result ≡ D.eval Add B32 (D.place region (pos 0)) (D.number n) 16 }
-    ensures holds { (blocks : List Counted) → MayHold (values_of D.Domain.own D.eq) (counted_more region blocks) B32 result }
-{
-    D::eval(Op::Add, Width::B32, D::place(region, 0), D::number(n), 16)
-}
-
-fn region_named(text: &str) -> Option<Region> {
-    if text == "z" {
-        return Some(ZEROED);
-    }
-    if text == "p" {
-        return Some(PLAIN);
-    }
-    None
-}
-
-// A block more of a region.
-fn hand_out<D: Domain>(s: &mut State<D>, text: &str) -> Result<(), Fail> {
-    let region = region_named(text).ok_or("a region")?;
-    if region.has_one_base() {
-        return Err(Fail::from("a block"));
-    }
-    s.add_block(region)?;
+fn set_value<D: Domain>(s: &mut State<D>, name: &str, text: &str) -> Result<(), Fail> {
+    let r = register_number(name).ok_or("a register")?;
+    let v = value_named(s, text)?;
+    s.set_register(r, v);
     Ok(())
 }
 
-// A block more of a region, and a place in it in a register.
-fn hand_to<D: Domain>(
-    s: &mut State<D>,
-    name: &str,
-    region: Region,
-    offset: &str,
-) -> Result<(), Fail> {
-    let r = register_number(name).ok_or("a register")?;
-    let n = u32::from_str_radix(offset, 16)?;
-    if region.has_one_base() {
-        return Err(Fail::from("a block"));
+// The site of a block, and whether it is zeroed.
+fn block_named(text: &str) -> Option<(u32, bool)> {
+    match text {
+        "z" => Some((ZEROED_SITE, true)),
+        "p" => Some((PLAIN_SITE, false)),
+        "new z" => Some((CALL_SITE, true)),
+        "new p" => Some((CALL_SITE, false)),
+        _ => None,
     }
-    s.add_block(region)?;
-    let v = block_place(region, n);
-    set_register(s, r, v);
+}
+
+// A block more.
+fn hand_out<D: Domain>(s: &mut State<D>, text: &str) -> Result<(), Fail> {
+    let (site, zeroed) = block_named(text).ok_or("a block")?;
+    s.add_block(Region::Block {
+        site,
+        size: BLOCK_SIZE,
+        zeroed,
+    })?;
+    Ok(())
+}
+
+// A block more, and its first byte's place in a register.
+fn hand_to<D: Domain>(s: &mut State<D>, name: &str, site: u32, zeroed: bool) -> Result<(), Fail> {
+    let r = register_number(name).ok_or("a register")?;
+    s.add_block(Region::Block {
+        site,
+        size: BLOCK_SIZE,
+        zeroed,
+    })?;
+    let v = block_place(site, BLOCK_SIZE, zeroed);
+    s.set_register(r, v);
+    Ok(())
+}
+
+// Adds a number to a register.
+fn raise<D: Domain>(s: &mut State<D>, name: &str, up: &str) -> Result<(), Fail> {
+    let r = register_number(name).ok_or("a register")?;
+    let v = moved_value(s, Op::Add, name, up)?;
+    s.set_register(r, v);
     Ok(())
 }
 
@@ -286,32 +268,30 @@ fn set<D: Domain>(s: &mut State<D>, name: &str, text: &str) -> Result<(), Fail> 
     if name == "df" {
         return set_seventh(s, text);
     }
-    if let Some((base, offset)) = text.split_once('+') {
-        if let Some(region) = region_named(base) {
-            return hand_to(s, name, region, offset);
-        }
+    if name == "note" {
+        s.set_note(Some(Note::Register(3, u32::from_str_radix(text, 16)?)));
+        return Ok(());
     }
-    set_value(s, name, text)
+    let (base, offset) = text.split_once('+').unwrap_or((text, "0"));
+    match block_named(base) {
+        Some((site, zeroed)) => {
+            hand_to(s, name, site, zeroed)?;
+            raise(s, name, offset)
+        }
+        None => set_value(s, name, text),
+    }
 }
 
 // An image, and how many states a jump makes of one.
 #[derive(Clone, Copy)]
-struct Setting<'a> {
-    alloc: Global,
-    image: &'a Image,
-    k: u32,
-}
-
-fn bytes_of(alloc: Global, words: &str) -> Result<Vec<u8>, Fail> {
-    let mut bytes = Vec::new(alloc);
-    for word in words.split_whitespace() {
-        bytes.push(u8::from_str_radix(word, 16)?)?;
-    }
-    Ok(bytes)
+pub struct Setting<'a> {
+    pub alloc: Global,
+    pub image: &'a Image,
+    pub k: u32,
 }
 
 // Where an instruction leads from a state, and its length.
-fn expanded<D: Domain>(
+pub fn expanded<D: Domain>(
     setting: Setting<'_>,
     s: &State<D>,
     words: &str,
@@ -361,7 +341,7 @@ fn after_part<D: Domain>(
     match name.strip_prefix('[') {
         Some(place) => {
             let (place, size) = place.split_once(']').ok_or("a place")?;
-            put(setting.alloc, setting.image, s, place, size, text)
+            put(setting, s, place, size, text)
         }
         None => {
             set(&mut s, name, text)?;
@@ -371,7 +351,7 @@ fn after_part<D: Domain>(
 }
 
 // The state that a text tells of.
-fn state_of<D: Domain>(setting: Setting<'_>, text: &str) -> Result<State<D>, Fail> {
+pub fn state_of<D: Domain>(setting: Setting<'_>, text: &str) -> Result<State<D>, Fail> {
     let mut s = State::start(setting.alloc, setting.image)?;
     let mut seen = Seen::new(setting.alloc);
     for part in text.split(';') {
@@ -386,7 +366,7 @@ fn state_of<D: Domain>(setting: Setting<'_>, text: &str) -> Result<State<D>, Fai
 // ---- an expansion's text
 
 // What stands between two parts of a text.
-fn push_between(out: &mut String, between: &str) -> Result<(), Fail> {
+pub fn push_between(out: &mut String, between: &str) -> Result<(), Fail> {
     if !out.is_empty() {
         out.push_str(between)?;
     }
@@ -403,14 +383,24 @@ fn push_offset(out: &mut String, o: i64) -> Result<(), Fail> {
     Ok(())
 }
 
-fn region_name(region: Region) -> &'static str {
-    match region {
-        Region::Stack => "s",
-        Region::Fs => "fs",
-        Region::Gs => "gs",
-        Region::Block { zeroed: true, .. } => "z",
-        Region::Block { zeroed: false, .. } => "p",
+// A block `z` or `p` by that letter, another one with its site and its size.
+fn push_block(out: &mut String, site: u32, size: u32, zeroed: bool) -> Result<(), Fail> {
+    let letter = if zeroed { "z" } else { "p" };
+    out.push_str(letter)?;
+    if block_named(letter) != Some((site, zeroed)) || size != BLOCK_SIZE {
+        write!(out, "{site:X}:{size:X}")?;
     }
+    Ok(())
+}
+
+fn push_region(out: &mut String, region: Region) -> Result<(), Fail> {
+    match region {
+        Region::Stack => out.push_str("s")?,
+        Region::Fs => out.push_str("fs")?,
+        Region::Gs => out.push_str("gs")?,
+        Region::Block { site, size, zeroed } => push_block(out, site, size, zeroed)?,
+    }
+    Ok(())
 }
 
 fn push_place(out: &mut String, area: Area, low: i64) -> Result<(), Fail> {
@@ -420,7 +410,7 @@ fn push_place(out: &mut String, area: Area, low: i64) -> Result<(), Fail> {
             write!(out, "{address:X}")?;
         }
         Area::In(region) => {
-            out.push_str(region_name(region))?;
+            push_region(out, region)?;
             push_offset(out, low)?;
         }
     }
@@ -443,7 +433,7 @@ fn push_value<D: Domain>(out: &mut String, v: D) -> Result<(), Fail> {
                 push_place(out, Area::In(region), i64::from(low))?;
             } else {
                 out.push_str("in ")?;
-                out.push_str(region_name(region))?;
+                push_region(out, region)?;
             }
         }
         Reach::Anywhere => out.push_str("any")?,
@@ -483,7 +473,7 @@ fn direction_text(alloc: Global, t: &Truths) -> Result<String, Fail> {
 }
 
 fn register_name(number: u8) -> &'static str {
-    for (name, r) in NAMES {
+    for (name, r) in REGISTERS {
         if r == number {
             return name;
         }
@@ -541,7 +531,7 @@ fn counts_text<D: Domain>(alloc: Global, parts: &Parts<D>) -> Result<String, Fai
     for i in 0..16usize {
         if let Some(c) = parts.counted(i) {
             push_between(&mut out, ",")?;
-            out.push_str(region_name(c.region))?;
+            push_region(&mut out, c.region)?;
             out.push_str(if c.many { " many" } else { " one" })?;
         }
     }
@@ -561,7 +551,7 @@ fn push_registers<D: Domain>(
     before: &State<D>,
     after: &State<D>,
 ) -> Result<(), Fail> {
-    for (name, r) in NAMES {
+    for (name, r) in REGISTERS {
         let old = value_text(alloc, before.register(r))?;
         let new = value_text(alloc, after.register(r))?;
         push_change(out, name, old.as_str(), new.as_str())?;
@@ -645,8 +635,8 @@ fn push_next<D: Domain>(
     Ok(())
 }
 
-// The next pairs with what each has changed, the causes and the written ranges.
-fn expansion_text<D: Domain>(
+// The next pairs with what each has changed, the causes and the written ranges, of an instruction of a length or of an import.
+pub fn expansion_text<D: Domain>(
     alloc: Global,
     before: &State<D>,
     len: u8,
@@ -667,120 +657,4 @@ fn expansion_text<D: Domain>(
         out.push_str("none")?;
     }
     Ok(out)
-}
-
-// ---- the tables
-
-fn most_states(setup: &str) -> Result<u32, Fail> {
-    for part in setup.split(';') {
-        if let Some(text) = part.trim().strip_prefix("k=") {
-            return Ok(u32::from_str_radix(text, 16)?);
-        }
-    }
-    Ok(32)
-}
-
-fn format_of(setup: &str) -> Format {
-    for part in setup.split(';') {
-        if part.trim() == "pe" {
-            return Format::Pe;
-        }
-    }
-    Format::Elf
-}
-
-// The text of the expansion of which a row tells.
-fn outcome<D: Domain>(alloc: Global, setup: &str, words: &str) -> Result<String, Fail> {
-    let image = image(alloc, format_of(setup))?;
-    let k = most_states(setup)?;
-    let setting = Setting {
-        alloc,
-        image: &image,
-        k,
-    };
-    let before: State<D> = state_of(setting, setup)?;
-    let (x, len) = expanded(setting, &before, words)?;
-    expansion_text(alloc, &before, len, &x)
-}
-
-// Adds a row that is not as it says, and what came of it.
-fn check_row<D: Domain>(alloc: Global, out: &mut String, row: &str) -> Result<(), Fail> {
-    let (setup, rest) = row.split_once('|').ok_or("an instruction")?;
-    let (words, want) = rest.split_once('|').ok_or("what comes of it")?;
-    let is = outcome::<D>(alloc, setup, words)?;
-    if is.as_str() != want {
-        let is = is.as_str();
-        write!(out, "{row}\n    is {is}\n")?;
-    }
-    Ok(())
-}
-
-// The rows of a table that are not as they say. A line that begins with '#' is none.
-fn differences<D: Domain>(alloc: Global, table: &str) -> Result<String, Fail> {
-    let mut out = String::new(alloc);
-    for line in table.lines() {
-        if !line.starts_with('#') {
-            check_row::<D>(alloc, &mut out, line)?;
-        }
-    }
-    Ok(out)
-}
-
-// ---- known code
-
-// The code that is known, and whether a byte that is not known ended it.
-fn code_text(alloc: Global, code: &KnownCode) -> Result<String, Fail> {
-    let mut out = String::new(alloc);
-    for b in code.bytes.as_slice() {
-        let b = *b;
-        push_between(&mut out, " ")?;
-        write!(&mut out, "{b:02X}")?;
-    }
-    if code.cut {
-        push_between(&mut out, " ")?;
-        out.push_str("cut")?;
-    }
-    Ok(out)
-}
-
-// Adds a row of known code that is not as it says, and what is known.
-fn check_code(setting: Setting<'_>, out: &mut String, row: &str) -> Result<(), Fail> {
-    let (setup, rest) = row.split_once('|').ok_or("an address")?;
-    let (at, want) = rest.split_once('|').ok_or("what is known")?;
-    let s: State<Bounded> = state_of(setting, setup)?;
-    let code = known_code(setting.image, u32::from_str_radix(at, 16)?, &s);
-    let is = code_text(setting.alloc, &code)?;
-    if is.as_str() != want {
-        let is = is.as_str();
-        write!(out, "{row}\n    is {is}\n")?;
-    }
-    Ok(())
-}
-
-#[test]
-fn code_is_known_where_its_bytes_are(rt: HostRuntime) -> Result<(), Fail> {
-    let alloc = rt.alloc();
-    let image = image(alloc, Format::Elf)?;
-    let setting = Setting {
-        alloc,
-        image: &image,
-        k: 32,
-    };
-    let mut out = String::new(alloc);
-    for line in known_rows::KNOWN.lines() {
-        check_code(setting, &mut out, line)?;
-    }
-    assert_eq!(rt; out.as_str(), "");
-    Ok(())
-}
-
-#[test]
-fn each_expansion_is_as_defined(rt: HostRuntime) -> Result<(), Fail> {
-    let bounded = differences::<Bounded>(rt.alloc(), rows::BOUNDED)?;
-    assert_eq!(rt; bounded.as_str(), "");
-    let flat = differences::<FlatNumbers>(rt.alloc(), rows::FLAT)?;
-    assert_eq!(rt; flat.as_str(), "");
-    let lined = differences::<Lined>(rt.alloc(), rows::LINED)?;
-    assert_eq!(rt; lined.as_str(), "");
-    Ok(())
 }

@@ -3,7 +3,7 @@ use Rattle.bit_words.specs.declared.width.Width.TheVariants.{B32}
 use Rattle.domain_laws.specs.Made.{values_of}
 use Rattle.partitioned_memory.specs.Well.{MayHold}
 use Rattle.abstract_state.specs.State.{Known}
-use Rattle.import_stubs.proofs.tests.hand_to.Goals as goal
+use Rattle.jakstab_core.proofs.state_texts.hand_to.Goals as goal
 
 pub set_register-requires-after_bounds : goal.set_register-requires-after_bounds
 set_register-requires-after_bounds g c κs within =
