@@ -36,8 +36,8 @@ use Rattle.partitioned_memory.specs.Well.{HasCount, IsWellFact, MayHold}
 use Rattle.partitioned_memory.specs.Describes.{AreBytes, StartsAt, bytes_in, number_in}
 use Rattle.partitioned_memory.proofs.Bytes.{IsWrite, byte-from, byte-is}
 use Rattle.partitioned_memory.proofs.FactsKept.{exact-keeps, inside-keeps}
-use Rattle.partitioned_memory.proofs.CallsKept.{int_eq-true, read-stands}
-use Rattle.partitioned_memory.proofs.Orders.{int_le-true, int_lt-false, same_area-refl}
+use Rattle.partitioned_memory.proofs.CallsKept.{read-stands}
+use Rattle.partitioned_memory.proofs.Orders.{int_le-true, int_lt-false, same_area-refl, int_eq-true}
 use Rattle.flow_log.specs.declared.cause.Cause.{Cause}
 use Rattle.flow_log.specs.declared.cause.Cause.TheVariants as causes
 use Rattle.abstract_state.specs.declared.note.Note.{Note}

@@ -28,8 +28,7 @@ use Rattle.partitioned_memory.specs.Areas.{IsInside, interval_at, interval_betwe
 use Rattle.partitioned_memory.specs.Lists.{Every}
 use Rattle.partitioned_memory.specs.Held.{PartsHeld, after_exact, after_inside, is_counted, nothing_held}
 use Rattle.partitioned_memory.specs.Well.{HasCount, IsWell, MayHold}
-use Rattle.partitioned_memory.proofs.Orders.{int_le-true}
-use Rattle.partitioned_memory.proofs.CallsKept.{int_eq-true}
+use Rattle.partitioned_memory.proofs.Orders.{int_le-true, int_eq-true}
 use Rattle.flow_log.specs.declared.cause.Cause.TheVariants as causes
 use Rattle.abstract_state.specs.declared.note.Note.{Note}
 use Rattle.abstract_state.specs.declared.stored.Stored.TheVariants.{Done, Faults, Stopped}

@@ -14,8 +14,7 @@ use Rattle.bit_words.specs.declared.width.Width.TheVariants.{B8, B16, B32}
 use Rattle.bit_words.specs.Width.{bytes_of}
 use Rattle.domain_laws.specs.Laws.{Values, IsLawful}
 use Rattle.partitioned_memory.specs.Areas.{same_area}
-use Rattle.partitioned_memory.proofs.CallsKept.{int_eq-true}
-use Rattle.partitioned_memory.proofs.Orders.{same_area-is, same_area-refl}
+use Rattle.partitioned_memory.proofs.Orders.{same_area-is, same_area-refl, int_eq-true}
 use Rattle.abstract_state.specs.declared.seen.Holder.{Holder}
 use Rattle.abstract_state.specs.declared.seen.Holder.TheVariants.{Register, Bytes}
 use Rattle.abstract_state.specs.contracts.seen.HolderPartialEq.TheImpl as equality

@@ -7,13 +7,13 @@ use Rattle.std.proofs.lemmas.List.{length-append}
 use Rattle.std.proofs.lemmas.List.Folds.{list_all-append}
 use Rattle.std.proofs.lemmas.Option.{slice_get-get_or}
 use Rattle.std.proofs.Math.Seq.{get_or-append_seam}
-use Rattle.automaton_text.specs.Orderly.{ascend}
+use Rattle.memory_map.specs.Ascending.{ascend}
 use Rattle.text_fields.specs.Lines.{last_of}
 use Rattle.text_fields.proofs.LastOnes.{last_of_later}
 use Rattle.std.proofs.lemmas.Bool.{and_parts, and_from}
 
-pub list_all_more : {X : Type 0} (p : X → Bool) (xs : List X) (x : X) → list_all p xs ≡ true → p x ≡ true → list_all p (xs ++ x ∷ []) ≡ true
-list_all_more p xs x all here = list_all-append p xs (x ∷ []) ∙ and_from (list_all p xs) (list_all p (x ∷ [])) all (and_from (p x) true here refl)
+pub list_all-push : {X : Type 0} (p : X → Bool) (xs : List X) (x : X) → list_all p xs ≡ true → p x ≡ true → list_all p (xs ++ x ∷ []) ≡ true
+list_all-push p xs x all here = list_all-append p xs (x ∷ []) ∙ and_from (list_all p xs) (list_all p (x ∷ [])) all (and_from (p x) true here refl)
 
 -- an element above the last one goes on with them
 pub ascend_more : {X : Type 0} (above : X → X → Bool) (xs : List X) (x : X) → ascend above xs ≡ true → option_map_or (λ l. above l x) (last_of xs) true ≡ true → ascend above (xs ++ x ∷ []) ≡ true

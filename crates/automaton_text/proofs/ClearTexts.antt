@@ -70,7 +70,7 @@ clear_at (x ∷ xs) (suc n) e = clear_at xs n (and_parts (is_clear x) (list_all 
 clear_digits : (k n : ℕ) → is_clear (hex_digits k n) ≡ true
 clear_digits k n = plain_clear (hex_digits k n) (plain_digits k n)
 
-clear_word : (n : ℕ) → is_clear (hex8 n) ≡ true
+pub clear_word : (n : ℕ) → is_clear (hex8 n) ≡ true
 clear_word n = plain_clear (hex8 n) (plain_word n)
 
 clear_stem : (name : Mnemonic) → is_clear (stem_text name) ≡ true

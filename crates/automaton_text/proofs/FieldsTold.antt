@@ -1,9 +1,8 @@
 -- The fields of an automaton's lines are the texts of what they give.
-use Rattle.std.proofs.Common.{◌≡◌, ℕ, ◌+◌, ◌<◌, ◌^◌, ◌==◌, Bool, true, false, List, [], ◌∷◌, ◌++◌, length, cond, Option, None, Some, Ok, Err, refl, sym, ◌∙◌, ap, subst, arith, append-nil, nat_lt, decimal}
-use Rattle.std.specs.Prelude.{Result, codes, find, is_some, is_none, not, ◌&&◌, option_map, if◌then◌else◌}
+use Rattle.std.proofs.Common.{◌≡◌, ℕ, ◌+◌, ◌<◌, ◌^◌, ◌==◌, Bool, true, false, List, [], ◌∷◌, ◌++◌, length, cond, Option, None, Some, refl, sym, ◌∙◌, ap, subst, arith, append-nil, nat_lt, decimal}
+use Rattle.std.specs.Prelude.{codes, find, is_some, is_none, not, ◌&&◌, option_map, if◌then◌else◌}
 use Rattle.std.specs.List.{join_with_byte}
 use Rattle.std.specs.Str.{bytes_eq}
-use Rattle.std.proofs.lemmas.Bool.Decides.{nat_tests}
 use Rattle.std.proofs.lemmas.Fmt.{decimal_digit}
 use Rattle.memory_map.specs.Image.{EXIT_PLACE}
 use Rattle.memory_map.specs.Name.{is_name}
@@ -19,18 +18,16 @@ use Rattle.automaton_text.specs.declared.automaton.Location.{Location}
 use Rattle.automaton_text.specs.declared.automaton.OpenMark.{OpenMark}
 use Rattle.automaton_text.specs.Orderly.{has_own_name}
 use Rattle.automaton_text.specs.Reading.{AutomatonSoFar, all_causes, cause_of, code_fields, count_fields, end_fields, has_own_suffix, import_fields, is_named, location_fields, mark_fields, name_of, own_name, row_fields, row_of, suffix_fields, text_fields, version_of}
-use Rattle.automaton_text.specs.Text.{cause_text, end_line, entry_line, header_line, import_suffix, is_version, loc_line, row_suffix, suffix_of}
+use Rattle.automaton_text.specs.Text.{cause_text, entry_line, header_line, import_suffix, is_version, loc_line}
 use Rattle.std.proofs.lemmas.Bool.{and_parts}
 use Rattle.text_fields.proofs.Found.{mapped, chained, same_word}
+use Rattle.automaton_text.proofs.Ascending.{less}
 
 -- ---- tests
 
 if_some : {A : Type 0} (t : Bool) (a b : A) → ◌≡◌ {A = Option A} (if t then Some a else None) (Some b) → (t ≡ true) × (a ≡ b)
 if_some true a b h = (refl, cc)
 if_some false a b h = cc
-
-less : (a b : ℕ) → nat_lt a b ≡ true → a < b
-less a b e = grind (arith, nat_tests)
 
 -- ---- the first line
 

@@ -4,6 +4,7 @@ pub mod ClearTexts
 pub mod Dashes
 pub mod FieldsTold
 pub mod Firsts
+pub mod HexBounds
 pub mod Orders
 pub mod ReadBack
 pub mod Reading

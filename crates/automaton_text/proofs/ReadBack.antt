@@ -11,6 +11,7 @@ use Rattle.std.proofs.lemmas.List.Splits.{slice_split_at}
 use Rattle.std.proofs.lemmas.List.Sums.{AllPass-from_list_all}
 use Rattle.memory_map.specs.Image.{EXIT_PLACE}
 use Rattle.memory_map.specs.Name.{is_name}
+use Rattle.memory_map.specs.Ascending.{ascend}
 use Rattle.text_fields.specs.Decimal.{decimal_is}
 use Rattle.text_fields.specs.Fields.{no_more, then_field, word_of}
 use Rattle.text_fields.specs.Hex.{hex8, hex_bytes, hex_digit, hex_digits, hex2, hex_text}
@@ -33,7 +34,7 @@ use Rattle.automaton_text.specs.declared.automaton.Automaton.{Automaton}
 use Rattle.automaton_text.specs.declared.stage.Stage.{Stage}
 use Rattle.automaton_text.specs.declared.stage.Stage.TheVariants as stages
 use Rattle.automaton_text.specs.Laws.{OrderlyAutomataAreReadBack, fits_edge, fits_label, fits_location, fits_mark, fits_name, fits_row, is_word}
-use Rattle.automaton_text.specs.Orderly.{IsOrderly, ascend, edge_text, has_own_name, is_edge_above, is_edge_among, is_label_at, is_location_above, is_opening_above}
+use Rattle.automaton_text.specs.Orderly.{IsOrderly, edge_text, has_own_name, is_edge_above, is_edge_among, is_label_at, is_location_above, is_opening_above}
 use Rattle.automaton_text.specs.Reading.{NO_ENTRY, AutomatonSoFar, all_causes, automaton_grammar, automaton_read, automaton_step, cause_of, code_fields, code_step, count_fields, edge_step, end_fields, end_step, entry_step, has_own_suffix, header_step, import_fields, import_step, is_above, is_code, is_line_above, is_location, is_mark_above, is_marks, is_named, is_over, is_place_of, label_step, later_step, location_fields, location_or_later_step, location_step, mark_fields, mark_step, name_of, nothing, own_name, row_fields, row_of, suffix_fields, text_fields, told, version_of}
 use Rattle.automaton_text.specs.Text.{HaveRowsBy, cause_text, code_text, edge_line, end_line, entry_line, header_line, import_suffix, is_version, label_text, loc_line, open_line, row_suffix, suffix_of, text_of}
 use Rattle.automaton_text.proofs.ClearTexts.{clear_both, clear_code, is_clear, plain_cause, plain_clear, plain_name}
@@ -64,12 +65,12 @@ goes_from_none above (x ∷ xs) e = goes_from above x xs e
 pub goes_behind : {X : Type 0} (above : X → X → Bool) (done : List X) (x : X) (xs : List X) → goes_on above (Some x) xs ≡ true → goes_on above (last_of (done ++ x ∷ [])) xs ≡ true
 goes_behind above done x xs e = ap (λ o. goes_on above o xs) (last_of_more done x) ∙ e
 
-one_more : {X : Type 0} (done : List X) (x : X) (xs : List X) → (done ++ x ∷ []) ++ xs ≡ done ++ (x ∷ xs)
+pub one_more : {X : Type 0} (done : List X) (x : X) (xs : List X) → (done ++ x ∷ []) ++ xs ≡ done ++ (x ∷ xs)
 one_more done x xs = append_assoc done (x ∷ []) xs
 
 -- ---- small facts
 
-word_small : (n : ℕ) → is_word n ≡ true → n < 2 ^ 32
+pub word_small : (n : ℕ) → is_word n ≡ true → n < 2 ^ 32
 word_small n e = grind (arith, nat_tests)
 
 pub clear_is : (text : List ℕ) → is_clear text ≡ true → All (λ b. (b == 10) ≡ false) text
@@ -251,7 +252,7 @@ not_over stages.Ended e = cc
 
 -- ---- edges
 
-abbrev label_fields : ℕ → Label → List (List ℕ)
+abbrev pub label_fields : ℕ → Label → List (List ℕ)
 label_fields from (Code bytes) = hex_text bytes.items ∷ fields (code_text from bytes.items)
 label_fields from (Import name) = codes "import" ∷ name ∷ []
 
@@ -267,13 +268,13 @@ label_parts from (Code bytes) fits =
     ap fields (append_assoc (hex_text bytes.items) space (code_text from bytes.items)) ∙ fields_first (hex_text bytes.items) (code_text from bytes.items) (plain_bytes bytes.items)
 label_parts from (Import name) fits = fields_first (codes "import") name refl ∙ ap (λ l. codes "import" ∷ l) (one_field name (plain_name name fits))
 
-label_clear : (from : ℕ) (label : Label) → fits_label label ≡ true → is_clear (label_text from label) ≡ true
+pub label_clear : (from : ℕ) (label : Label) → fits_label label ≡ true → is_clear (label_text from label) ≡ true
 unfolding label_text
 label_clear from (Code bytes) fits =
     clear_both (hex_text bytes.items ++ space) (code_text from bytes.items) (clear_both (hex_text bytes.items) space (plain_clear (hex_text bytes.items) (plain_bytes bytes.items)) refl) (clear_code from bytes.items)
 label_clear from (Import name) fits = clear_both (codes "import ") name refl (plain_clear name (plain_name name fits))
 
-edge_parts : (x : Edge) → fits_label x.label ≡ true → fields (codes "edge " ++ edge_text x) ≡ codes "edge" ∷ hex8 x.from ∷ hex8 x.to ∷ label_fields x.from x.label
+pub edge_parts : (x : Edge) → fits_label x.label ≡ true → fields (codes "edge " ++ edge_text x) ≡ codes "edge" ∷ hex8 x.from ∷ hex8 x.to ∷ label_fields x.from x.label
 unfolding edge_text
 edge_parts x fits =
     let label : List ℕ = label_text x.from x.label in
@@ -283,7 +284,7 @@ edge_parts x fits =
     ∙ ap (λ l. codes "edge" ∷ hex8 x.from ∷ l) (fields_first (hex8 x.to) label (plain_word x.to))
     ∙ ap (λ l. codes "edge" ∷ hex8 x.from ∷ hex8 x.to ∷ l) (label_parts x.from x.label fits)
 
-edge_clear : (x : Edge) → fits_label x.label ≡ true → is_clear (codes "edge " ++ edge_text x) ≡ true
+pub edge_clear : (x : Edge) → fits_label x.label ≡ true → is_clear (codes "edge " ++ edge_text x) ≡ true
 unfolding edge_text
 edge_clear x fits =
     let word_clear : (n : ℕ) → is_clear (hex8 n) ≡ true = λ n. plain_clear (hex8 n) (plain_word n) in
@@ -307,14 +308,14 @@ unfolding hex_digit
 digit_no_letter d small = grind (arith, nat_tests)
 
 -- digits are not the word of imports
-not_import : (bytes : List ℕ) → bytes_eq (hex_text bytes) (codes "import") ≡ false
+pub not_import : (bytes : List ℕ) → bytes_eq (hex_text bytes) (codes "import") ≡ false
 unfolding hex_text hex2 hex_digits
 not_import [] = refl
 not_import (b ∷ bytes) =
     let first : (hex_digit (b / 16 % 16) == 105) ≡ false = digit_no_letter (b / 16 % 16) (omega arith) in
     ap (λ t. t && bytes_eq (hex_digit (b % 16) ∷ hex_text bytes) (codes "mport")) first
 
-bytes_small : (bytes : List ℕ) → list_all (λ b. nat_lt b (2 ^ 8)) bytes ≡ true → (k d : ℕ) → k < length bytes → get_or bytes k d < 2 ^ 8
+pub bytes_small : (bytes : List ℕ) → list_all (λ b. nat_lt b (2 ^ 8)) bytes ≡ true → (k d : ℕ) → k < length bytes → get_or bytes k d < 2 ^ 8
 bytes_small bytes e k d below = small (get_or bytes k d) (AllPass-from_list_all (λ b. nat_lt b (2 ^ 8)) bytes e k d below)
   where
     small : (b : ℕ) → nat_lt b (2 ^ 8) ≡ true → b < 2 ^ 8
@@ -445,7 +446,7 @@ mark_read v m fits row =
     ∙ then_given cause_of (cause_text m.cause) (row_list m.row) m.cause (λ cause fs. option_map (λ row. made m.at cause row) (row_fields v fs)) (cause_read m.cause)
     ∙ ap (option_map (λ (row : Option ℕ). made m.at m.cause row)) (rows_by (v == 2) m.row row f.1)
 
-plain_rows : (row : Option ℕ) → fits_row row ≡ true → ArePlain (row_list row)
+pub plain_rows : (row : Option ℕ) → fits_row row ≡ true → ArePlain (row_list row)
 plain_rows None fits = plain.none
 plain_rows (Some row) fits = let small : row < 2 ^ 32 = word_small row fits in plain.one (decimal row) [] (plain_is (decimal row) (plain_decimal row (omega arith))) plain.none
 

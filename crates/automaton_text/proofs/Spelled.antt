@@ -1,5 +1,5 @@
 -- Bytes that are a spelling as a whole decode as a whole.
-use Rattle.std.proofs.Common.{◌≡◌, ℕ, ◌≢◌, ◌⊎◌, inl, inr, ◌<◌, ◌≤◌, ◌&&◌, Bool, true, false, Option, None, nat_le, List, [], ◌∷◌, length, take, Some, refl, sym, ◌∙◌, ap, arith}
+use Rattle.std.proofs.Common.{◌≡◌, ℕ, ◌≢◌, inl, inr, ◌<◌, ◌≤◌, ◌&&◌, Bool, true, false, Option, None, nat_le, List, [], ◌∷◌, length, take, Some, refl, sym, ◌∙◌, ap, arith}
 use Rattle.x86_syntax.specs.declared.instr.Instr.{Instr}
 use Rattle.x86_syntax.specs.Spelling.{spelled}
 use Rattle.x86_syntax.specs.Decodes.{decoded, Decodes}
@@ -11,6 +11,7 @@ use Rattle.x86_syntax.specs.Text.{instr_text}
 use Rattle.x86_decoder.specs.Refusals.{IsSpelling}
 use Rattle.automaton_text.specs.Text.{code_text, text_at}
 use Rattle.x86_syntax.proofs.DecodesLemmas.{decodes_computes}
+use Rattle.std.proofs.lemmas.Option.{same_Some}
 
 take_whole : (xs : List ℕ) → take (length xs) xs ≡ xs
 take_whole [] = refl
@@ -20,14 +21,11 @@ pub decoded_whole : (bytes : List ℕ) (i : Instr) → length bytes ≤ 15 → s
 decoded_whole bytes i short names =
     decodes_computes bytes i (length bytes) (record { within = omega arith; short = short; names = ap spelled (take_whole bytes) ∙ names })
 
-some_same : {X : Type 0} (x y : X) → Some x ≡ Some y → x ≡ y
-some_same x y e = cc
-
 -- the text of bytes is that of the instruction that stands at their front, where they are a spelling
 pub code_text_of : (from : ℕ) (bytes : List ℕ) (i : Instr) (n : ℕ) → length bytes ≤ 15 → IsSpelling bytes → decoded bytes ≡ Some (i, n) → code_text from bytes ≡ instr_text from i n
 unfolding code_text
 code_text_of from bytes i n short (whole, names) found =
-    let pair : (whole, length bytes) ≡ (i, n) = some_same (whole, length bytes) (i, n) (sym (decoded_whole bytes whole short names) ∙ found) in
+    let pair : (whole, length bytes) ≡ (i, n) = same_Some (whole, length bytes) (i, n) (sym (decoded_whole bytes whole short names) ∙ found) in
     ap (text_at from (length bytes)) names ∙ ap (λ (p : Instr × ℕ). instr_text from p.0 p.1) pair
 
 -- bytes that are no spelling, or too many, have no text
@@ -63,7 +61,7 @@ not_decoded from bytes text short none = no_code from bytes text (no_spelling by
 pub decoded_in_part : (from : ℕ) (bytes text : List ℕ) (i : Instr) (n : ℕ) → length bytes ≤ 15 → Some (i, n) ≡ decoded bytes → n ≢ length bytes → is_code from bytes text ≡ false
 decoded_in_part from bytes text i n short found other =
     no_code from bytes text (no_spelling bytes (spelled bytes) refl short (λ whole e.
-    let pair : (i, n) ≡ (whole, length bytes) = some_same (i, n) (whole, length bytes) (found ∙ e) in
+    let pair : (i, n) ≡ (whole, length bytes) = same_Some (i, n) (whole, length bytes) (found ∙ e) in
     other (ap (λ (p : Instr × ℕ). p.1) pair)))
 
 -- what decodes as a whole has the text of its instruction

@@ -16,6 +16,7 @@ use Rattle.text_fields.specs.Lines.{CONTENT, COUNT, END, FIELD, HEADER, ORDER, W
 use Rattle.text_fields.proofs.Splitting.{fields_back, spaced}
 use Rattle.x86_syntax.specs.Spelling.{spelled}
 use Rattle.memory_map.specs.Image.{EXIT_PLACE}
+use Rattle.memory_map.specs.Ascending.{ascend}
 use Rattle.flow_log.specs.declared.cause.Cause.{Cause}
 use Rattle.flow_log.specs.declared.edge.Edge.{Edge}
 use Rattle.flow_log.specs.declared.edge.Label.TheVariants.{Code, Import}
@@ -25,10 +26,10 @@ use Rattle.automaton_text.specs.declared.automaton.Automaton.{Automaton}
 use Rattle.automaton_text.specs.declared.stage.Stage.{Stage}
 use Rattle.automaton_text.specs.declared.stage.Stage.TheVariants as stages
 use Rattle.automaton_text.specs.Laws.{TextsTellOrderlyAutomata}
-use Rattle.automaton_text.specs.Orderly.{IsOrderly, ascend, edge_text, has_own_name, is_edge_above, is_edge_among, is_location_above, is_opening_above}
+use Rattle.automaton_text.specs.Orderly.{IsOrderly, edge_text, has_own_name, is_edge_above, is_edge_among, is_location_above, is_opening_above}
 use Rattle.automaton_text.specs.Reading.{NO_ENTRY, AutomatonSoFar, automaton_grammar, automaton_read, automaton_step, code_fields, code_step, count_fields, edge_step, end_fields, end_step, entry_step, has_own_suffix, header_step, import_fields, import_step, is_above, is_code, is_line_above, is_location, is_mark_above, is_marks, is_over, is_place_of, label_step, later_step, location_fields, location_or_later_step, location_step, mark_fields, mark_step, nothing, step_after, told, version_of, with_edge}
 use Rattle.automaton_text.specs.Text.{HaveRowsBy, cause_text, code_text, edge_line, end_line, entry_line, header_line, is_version, label_text, loc_line, open_line, row_suffix, text_of}
-use Rattle.automaton_text.proofs.Ascends.{ascend_more, list_all_more}
+use Rattle.automaton_text.proofs.Ascends.{ascend_more, list_all-push}
 use Rattle.automaton_text.proofs.FieldsTold.{code_told, counts_told, ends_told, entry_text, import_told, location_named, location_text, location_told, mark_told, row_list, suffix_list, version_told}
 use Rattle.std.proofs.lemmas.Bool.{and_parts, and_from}
 use Rattle.text_fields.proofs.Found.{if_ok, found_ok, same_ok, same_word}
@@ -65,7 +66,7 @@ IsBegun stages.Edges r = (is_version r.version ≡ true) × (is_location r.locat
 IsBegun stages.Marks r = (is_version r.version ≡ true) × (is_location r.locations r.entry ≡ true)
 IsBegun stages.Ended r = (is_version r.version ≡ true) × (is_location r.locations r.entry ≡ true)
 
-pub record Keeps (r : AutomatonSoFar) : Type 0 where
+pub record IsOrderlySoFar (r : AutomatonSoFar) : Type 0 where
   pub begun : IsBegun r.stage r
   pub locations : ascend is_location_above r.locations ≡ true
   pub names : list_all has_own_name r.locations ≡ true
@@ -77,16 +78,16 @@ pub record Keeps (r : AutomatonSoFar) : Type 0 where
   pub opened : list_all (λ m. is_location r.locations m.at) r.marks ≡ true
 
 pub record Adds (r t : AutomatonSoFar) (line : List ℕ) : Type 0 where
-  pub kept : Keeps t
+  pub kept : IsOrderlySoFar t
   pub text : said t ≡ said r ++ (line ++ newline)
 
-flat_map-last : {X : Type 0} (f : X → List ℕ) (xs : List X) (x : X) → flat_map f (xs ++ x ∷ []) ≡ flat_map f xs ++ f x
+pub flat_map-last : {X : Type 0} (f : X → List ℕ) (xs : List X) (x : X) → flat_map f (xs ++ x ∷ []) ≡ flat_map f xs ++ f x
 flat_map-last f xs x = flat_map-append f xs (x ∷ []) ∙ ap (λ l. flat_map f xs ++ l) (append-nil (f x))
 
 -- ---- the first line and the entry
 
 after_start : (v e : ℕ) (ls : List Location) (es : List Edge) (last : List ℕ) (ms : List OpenMark) (t : AutomatonSoFar) (line : List ℕ)
-    → Keeps (reading stages.Start v e ls es last ms) → header_step (reading stages.Start v e ls es last ms) line ≡ Ok t → Adds (reading stages.Start v e ls es last ms) t line
+    → IsOrderlySoFar (reading stages.Start v e ls es last ms) → header_step (reading stages.Start v e ls es last ms) line ≡ Ok t → Adds (reading stages.Start v e ls es last ms) t line
 after_start v e ls es last ms t line kept h =
     let r : AutomatonSoFar = reading stages.Start v e ls es last ms in
     let f : (w : ℕ) × (version_of line ≡ Some w) × (Ok (reading stages.Header w e ls es last ms) ≡ Ok t) = found_ok HEADER (version_of line) (λ w. Ok (reading stages.Header w e ls es last ms)) t h in
@@ -104,7 +105,7 @@ entry_added v at ls es ms line no_location no_edge no_mark is =
     rw (no_location, no_edge, no_mark, is) (append-nil ((front ++ []) ++ []) ∙ append-nil (front ++ []) ∙ append-nil front)
 
 entry_by : (v e : ℕ) (ls : List Location) (es : List Edge) (last : List ℕ) (ms : List OpenMark) (t : AutomatonSoFar) (line : List ℕ) (fs : List (List ℕ))
-    → Keeps (reading stages.Header v e ls es last ms) → fields line ≡ fs → entry_step (reading stages.Header v e ls es last ms) fs ≡ Ok t → Adds (reading stages.Header v e ls es last ms) t line
+    → IsOrderlySoFar (reading stages.Header v e ls es last ms) → fields line ≡ fs → entry_step (reading stages.Header v e ls es last ms) fs ≡ Ok t → Adds (reading stages.Header v e ls es last ms) t line
 entry_by v e ls es last ms t line [] kept parts h = cc
 entry_by v e ls es last ms t line (word ∷ fs) kept parts h =
     let r : AutomatonSoFar = reading stages.Header v e ls es last ms in
@@ -135,7 +136,7 @@ location_added : (front : List ℕ) (ls : List Location) (es : List Edge) (ms : 
 location_added front ls es ms l line no_edge no_mark is = rw (no_edge, no_mark, is, flat_map-last loc_line ls l) (simp (append_assoc, append-nil))
 
 location_by : (v e : ℕ) (ls : List Location) (es : List Edge) (last : List ℕ) (ms : List OpenMark) (t : AutomatonSoFar) (line : List ℕ) (at : ℕ) (suffix : Option (List ℕ))
-    → Keeps (reading stages.Locations v e ls es last ms) → line ≡ codes "loc" ++ spaced (hex8 at ∷ suffix_list suffix)
+    → IsOrderlySoFar (reading stages.Locations v e ls es last ms) → line ≡ codes "loc" ++ spaced (hex8 at ∷ suffix_list suffix)
     → location_step (reading stages.Locations v e ls es last ms) at suffix ≡ Ok t → Adds (reading stages.Locations v e ls es last ms) t line
 unfolding location_step
 location_by v e ls es last ms t line at suffix kept is h =
@@ -149,7 +150,7 @@ location_by v e ls es last ms t line at suffix kept is h =
       kept = record {
         begun = kept.begun;
         locations = ascend_more is_location_above ls l kept.locations order.0;
-        names = list_all_more has_own_name ls l kept.names (location_named at suffix content.0);
+        names = list_all-push has_own_name ls l kept.names (location_named at suffix content.0);
         edges = kept.edges;
         last = kept.last;
         labels = no_labels (ls ++ l ∷ []) es kept.begun.1;
@@ -190,7 +191,7 @@ pub record IsLater (stage : Stage) (r : AutomatonSoFar) : Type 0 where
   pub tells : said_at stage r ≡ said_body r
 
 edge_kept : (stage : Stage) (v e : ℕ) (ls : List Location) (es : List Edge) (last : List ℕ) (ms : List OpenMark) (line : List ℕ) (x : Edge)
-    → Keeps (reading stage v e ls es last ms) → IsLater stage (reading stage v e ls es last ms) → is_marks stage ≡ false
+    → IsOrderlySoFar (reading stage v e ls es last ms) → IsLater stage (reading stage v e ls es last ms) → is_marks stage ≡ false
     → line ≡ codes "edge " ++ edge_text x → is_line_above last line ≡ true → is_edge_among ls x ≡ true
     → Adds (reading stage v e ls es last ms) (reading stages.Edges v e ls (es ++ x ∷ []) line ms) line
 edge_kept stage v e ls es last ms line x kept later on is above among = record {
@@ -200,7 +201,7 @@ edge_kept stage v e ls es last ms line x kept later on is above among = record {
     names = kept.names;
     edges = ascend_more is_edge_above es x kept.edges (above_by last line (last_of es) x kept.last is above);
     last = last_by es x line is;
-    labels = list_all_more (is_edge_among ls) es x kept.labels among;
+    labels = list_all-push (is_edge_among ls) es x kept.labels among;
     marks = kept.marks;
     rows = kept.rows;
     opened = kept.opened;
@@ -245,7 +246,7 @@ pub end_whole : (l e o : ℕ) → (codes "end" ++ spaced (decimal l ∷ decimal 
 end_whole l e o = ap (λ x. codes "end " ++ x) (three_fields (decimal l) (decimal e) (decimal o))
 
 module _ (stage : Stage) (v e : ℕ) (ls : List Location) (es : List Edge) (last : List ℕ) (ms : List OpenMark) (t : AutomatonSoFar) (line : List ℕ)
-    (kept : Keeps (reading stage v e ls es last ms)) (later : IsLater stage (reading stage v e ls es last ms)) where
+    (kept : IsOrderlySoFar (reading stage v e ls es last ms)) (later : IsLater stage (reading stage v e ls es last ms)) where
   import_by : (from to : ℕ) (name : List ℕ) → is_marks stage ≡ false → line ≡ codes "edge" ++ spaced (hex8 from ∷ hex8 to ∷ codes "import" ∷ name ∷ [])
       → import_step (reading stage v e ls es last ms) line from to name ≡ Ok t → Adds (reading stage v e ls es last ms) t line
   unfolding import_step
@@ -322,7 +323,7 @@ module _ (stage : Stage) (v e : ℕ) (ls : List Location) (es : List Edge) (last
           labels = kept.labels;
           marks = ascend_more is_opening_above ms m kept.marks order.0;
           rows = All-push (λ (n : OpenMark). is_some n.row ≡ (v == 2)) ms m kept.rows row;
-          opened = list_all_more (λ n. is_location ls n.at) ms m kept.opened content.0;
+          opened = list_all-push (λ n. is_location ls n.at) ms m kept.opened content.0;
         };
         text =
             ap (λ l. (header_line v ++ entry_line e ++ flat_map loc_line ls ++ flat_map edge_line es) ++ l) (flat_map-last open_line ms m)
@@ -377,7 +378,7 @@ module _ (stage : Stage) (v e : ℕ) (ls : List Location) (es : List Edge) (last
 -- ---- all lines
 
 place_by : (v e : ℕ) (ls : List Location) (es : List Edge) (last : List ℕ) (ms : List OpenMark) (t : AutomatonSoFar) (line word : List ℕ) (fs : List (List ℕ)) (loc : Bool)
-    → Keeps (reading stages.Locations v e ls es last ms) → length ls < 2 ^ 64 → length es < 2 ^ 64 → length ms < 2 ^ 64 → fields line ≡ word ∷ fs → bytes_eq word (codes "loc") ≡ loc
+    → IsOrderlySoFar (reading stages.Locations v e ls es last ms) → length ls < 2 ^ 64 → length es < 2 ^ 64 → length ms < 2 ^ 64 → fields line ≡ word ∷ fs → bytes_eq word (codes "loc") ≡ loc
     → (if loc then or_fault FIELD (location_fields fs) (λ l. location_step (reading stages.Locations v e ls es last ms) l.0 l.1)
     else demand (is_location ls e) NO_ENTRY (later_step (reading stages.Locations v e ls es last ms) line (word ∷ fs))) ≡ Ok t
     → Adds (reading stages.Locations v e ls es last ms) t line
@@ -392,14 +393,14 @@ place_by v e ls es last ms t line word fs false kept few fewer fewest parts a h 
     after_places stages.Locations v e ls es last ms t line kept (record { version = kept.begun.0; entry = d.0; fresh = λ _. kept.begun.2; tells = refl }) (word ∷ fs) few fewer fewest parts d.1
 
 places_by : (v e : ℕ) (ls : List Location) (es : List Edge) (last : List ℕ) (ms : List OpenMark) (t : AutomatonSoFar) (line : List ℕ) (fs : List (List ℕ))
-    → Keeps (reading stages.Locations v e ls es last ms) → length ls < 2 ^ 64 → length es < 2 ^ 64 → length ms < 2 ^ 64 → fields line ≡ fs
+    → IsOrderlySoFar (reading stages.Locations v e ls es last ms) → length ls < 2 ^ 64 → length es < 2 ^ 64 → length ms < 2 ^ 64 → fields line ≡ fs
     → location_or_later_step (reading stages.Locations v e ls es last ms) line fs ≡ Ok t → Adds (reading stages.Locations v e ls es last ms) t line
 unfolding location_or_later_step
 places_by v e ls es last ms t line [] kept few fewer fewest parts h = cc
 places_by v e ls es last ms t line (word ∷ fs) kept few fewer fewest parts h = place_by v e ls es last ms t line word fs (bytes_eq word (codes "loc")) kept few fewer fewest parts refl h
 
 step_by : (stage : Stage) (v e : ℕ) (ls : List Location) (es : List Edge) (last : List ℕ) (ms : List OpenMark) (t : AutomatonSoFar) (line : List ℕ)
-    → Keeps (reading stage v e ls es last ms) → length ls < 2 ^ 64 → length es < 2 ^ 64 → length ms < 2 ^ 64
+    → IsOrderlySoFar (reading stage v e ls es last ms) → length ls < 2 ^ 64 → length es < 2 ^ 64 → length ms < 2 ^ 64
     → step_after stage (reading stage v e ls es last ms) line ≡ Ok t → Adds (reading stage v e ls es last ms) t line
 step_by stages.Start v e ls es last ms t line kept few fewer fewest h = after_start v e ls es last ms t line kept h
 step_by stages.Header v e ls es last ms t line kept few fewer fewest h = entry_by v e ls es last ms t line (fields line) kept refl h
@@ -411,7 +412,7 @@ step_by stages.Marks v e ls es last ms t line kept few fewer fewest h =
 step_by stages.Ended v e ls es last ms t line kept few fewer fewest h = cc
 
 -- a text has at least as many bytes as lines
-lines_few : {X : Type 0} (f : X → List ℕ) → ((x : X) → 0 < length (f x)) → (xs : List X) → length xs ≤ length (flat_map f xs)
+pub lines_few : {X : Type 0} (f : X → List ℕ) → ((x : X) → 0 < length (f x)) → (xs : List X) → length xs ≤ length (flat_map f xs)
 lines_few f some [] = omega arith
 lines_few f some (x ∷ xs) =
     let here = some x in
@@ -475,10 +476,10 @@ are_few stages.Ended r begun short =
 
 pub record Told (s t : AutomatonSoFar) (added : List ℕ) : Type 0 where
   pub text : said t ≡ said s ++ added
-  pub kept : Keeps t
+  pub kept : IsOrderlySoFar t
   pub over : is_over t.stage ≡ true
 
-last_line : (n : ℕ) (s t : AutomatonSoFar) (rest : List ℕ) (ended none : Bool) → is_over s.stage ≡ ended → (length rest == 0) ≡ none → Keeps s
+last_line : (n : ℕ) (s t : AutomatonSoFar) (rest : List ℕ) (ended none : Bool) → is_over s.stage ≡ ended → (length rest == 0) ≡ none → IsOrderlySoFar s
     → ◌≡◌ {A = Result AutomatonSoFar LineFault} (if ended && none then Ok s else Err (end_fault n)) (Ok t) → Told s t rest
 last_line n s t [] true true over e kept h =
     let same : s ≡ t = cc in
@@ -487,9 +488,9 @@ last_line n s t (b ∷ rest) ended true over e kept h = let never : length (b �
 last_line n s t rest true false over e kept h = cc
 last_line n s t rest false none over e kept h = cc
 
-whole_line : (n : ℕ) (s t : AutomatonSoFar) (line next : List ℕ) (others : List (List ℕ)) (ended : Bool) (made : Result AutomatonSoFar ℕ) → Keeps s
+whole_line : (n : ℕ) (s t : AutomatonSoFar) (line next : List ℕ) (others : List (List ℕ)) (ended : Bool) (made : Result AutomatonSoFar ℕ) → IsOrderlySoFar s
     → length (said s ++ join_with_byte 10 (line ∷ next ∷ others)) < 2 ^ 64 → automaton_step s line ≡ made
-    → ((n : ℕ) (u : AutomatonSoFar) → Keeps u → length (said u ++ join_with_byte 10 (next ∷ others)) < 2 ^ 64 → read_from automaton_grammar n u (next ∷ others) ≡ Ok t → Told u t (join_with_byte 10 (next ∷ others)))
+    → ((n : ℕ) (u : AutomatonSoFar) → IsOrderlySoFar u → length (said u ++ join_with_byte 10 (next ∷ others)) < 2 ^ 64 → read_from automaton_grammar n u (next ∷ others) ≡ Ok t → Told u t (join_with_byte 10 (next ∷ others)))
     → ◌≡◌ {A = Result AutomatonSoFar LineFault} (if ended then Err (end_fault n) else after_line automaton_grammar n made (λ read. read_from automaton_grammar (n + 1) read (next ∷ others))) (Ok t)
     → Told s t (join_with_byte 10 (line ∷ next ∷ others))
 unfolding automaton_step
@@ -507,7 +508,7 @@ whole_line n s t line next others false (Ok u) kept short is later h =
     let rest : Told u t behind = later (n + 1) u one.kept (subst (λ l. length l < 2 ^ 64) (sym same) short) h in
     record { text = rest.text ∙ same; kept = rest.kept; over = rest.over }
 
-all_lines : (ls : List (List ℕ)) (n : ℕ) (s t : AutomatonSoFar) → Keeps s → length (said s ++ join_with_byte 10 ls) < 2 ^ 64 → read_from automaton_grammar n s ls ≡ Ok t → Told s t (join_with_byte 10 ls)
+all_lines : (ls : List (List ℕ)) (n : ℕ) (s t : AutomatonSoFar) → IsOrderlySoFar s → length (said s ++ join_with_byte 10 ls) < 2 ^ 64 → read_from automaton_grammar n s ls ≡ Ok t → Told s t (join_with_byte 10 ls)
 unfolding read_from
 all_lines [] n s t kept short h = cc
 all_lines (rest ∷ []) n s t kept short h = last_line n s t rest (is_over s.stage) (length rest == 0) refl refl kept h
@@ -532,8 +533,8 @@ begun_over stages.Edges r e begun = cc
 begun_over stages.Marks r e begun = cc
 begun_over stages.Ended r e begun = begun
 
-keeps_nothing : Keeps nothing
-keeps_nothing = record { begun = (refl, refl, refl); locations = refl; names = refl; edges = refl; last = λ e none. cc; labels = refl; marks = refl; rows = All-nil _; opened = refl }
+nothing_orderly : IsOrderlySoFar nothing
+nothing_orderly = record { begun = (refl, refl, refl); locations = refl; names = refl; edges = refl; last = λ e none. cc; labels = refl; marks = refl; rows = All-nil _; opened = refl }
 
 abbrev automaton_of : AutomatonSoFar → Automaton
 automaton_of r = record { version = r.version; entry = r.entry; locations = r.locations; edges = r.edges; marks = r.marks }
@@ -562,7 +563,7 @@ read_by text a (Err f) short is h = cc
 read_by text a (Ok r) short is h =
     let same : automaton_of r ≡ a = cc in
     let room : length (join_with_byte 10 (lines text)) < 2 ^ 64 = subst (λ l. length l < 2 ^ 64) (sym (join_with_byte-slice_split 10 text)) short in
-    subst (λ (b : Automaton). IsOrderly b × (text_of b ≡ text)) same (orderly_by text r (all_lines (lines text) 1 nothing r keeps_nothing room is))
+    subst (λ (b : Automaton). IsOrderly b × (text_of b ≡ text)) same (orderly_by text r (all_lines (lines text) 1 nothing r nothing_orderly room is))
 
 pub texts_tell : TextsTellOrderlyAutomata
 unfolding automaton_read

@@ -1,7 +1,8 @@
 -- Orderly automata: those that their texts tell.
-use Rattle.std.specs.Prelude.{◌≡◌, ℕ, ◌==◌, ◌&&◌, ◌++◌, Bool, true, not, is_none, is_some, List, [], ◌∷◌, codes, nat_lt, if◌then◌else◌}
+use Rattle.std.specs.Prelude.{◌≡◌, ℕ, ◌==◌, ◌&&◌, ◌++◌, Bool, true, not, is_none, is_some, List, codes, nat_lt, if◌then◌else◌}
 use Rattle.std.specs.List.{list_all}
 use Rattle.std.specs.Ordering.{is_lt}
+use Rattle.memory_map.specs.Ascending.{ascend}
 use Rattle.memory_map.specs.Image.{EXIT_PLACE}
 use Rattle.text_fields.specs.Hex.{hex8}
 use Rattle.text_fields.specs.Line.{space}
@@ -15,12 +16,6 @@ use Rattle.automaton_text.specs.declared.automaton.Automaton.{Automaton}
 use Rattle.automaton_text.specs.Orders.{opening_cmp}
 use Rattle.automaton_text.specs.Reading.{is_line_above, is_location, is_named, is_place_of}
 use Rattle.automaton_text.specs.Text.{HaveRowsBy, is_version, label_text}
-
--- each element stands above the one before it
-abbrev pub ascend : {X : Type 0} → (X → X → Bool) → List X → Bool
-ascend is_above [] = true
-ascend is_above (x ∷ []) = true
-ascend is_above (x ∷ y ∷ ys) = is_above x y && ascend is_above (y ∷ ys)
 
 -- ---- orders
 

@@ -4,7 +4,7 @@ use Rattle.memory_map.specs.Image.{Image}
 use Rattle.x86_syntax.specs.declared.instr.Instr.{Instr}
 use Rattle.x86_syntax.specs.Text.{next_address}
 use Rattle.x86_syntax.proofs.DecodesLemmas.{decodes_once, no_decode}
-use Rattle.decode_listing.specs.Listing.{Lists, Refuses, AreLines, IsListing, code_from, instruction_line, fault_line, header_line, end_line}
+use Rattle.decode_listing.specs.Listing.{Lists, ListsRefusal, AreLines, IsListing, code_from, instruction_line, fault_line, header_line, end_line}
 use Rattle.decode_listing.proofs.Refusing.{refused_once}
 
 module _ (image : Image) where
@@ -18,11 +18,11 @@ module _ (image : Image) where
       )
 
   -- one of a fault
-  refuses_once : (at : ℕ) (line other : List ℕ) → Refuses image at line → Refuses image at other → line ≡ other
+  refuses_once : (at : ℕ) (line other : List ℕ) → ListsRefusal image at line → ListsRefusal image at other → line ≡ other
   refuses_once at line other r s = r.text ∙ ap (fault_line at) (refused_once r.fault s.fault (code_from image at) r.cause s.cause) ∙ sym s.text
 
   -- and not both
-  not_both : (at : ℕ) (line other : List ℕ) (next : ℕ) → Lists image at line next → Refuses image at other → ⊥
+  not_both : (at : ℕ) (line other : List ℕ) (next : ℕ) → Lists image at line next → ListsRefusal image at other → ⊥
   not_both at line other next l r = no_decode (code_from image at) l.i l.size r.none l.decodes
 
   pub lines_once : (count at : ℕ) (lines others : List ℕ) (n m : ℕ) → AreLines image count at lines n → AreLines image count at others m → (lines ≡ others) × (n ≡ m)

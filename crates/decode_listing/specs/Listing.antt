@@ -44,14 +44,14 @@ pub record Lists (image : Image) (at : ℕ) (line : List ℕ) (next : ℕ) : Typ
   pub after : next ≡ next_address at size
 
 -- the line of an address where none stands
-pub record Refuses (image : Image) (at : ℕ) (line : List ℕ) : Type 0 where
+pub record ListsRefusal (image : Image) (at : ℕ) (line : List ℕ) : Type 0 where
   pub fault : DecodeFault
   pub none : decoded (code_from image at) ≡ None
   pub cause : Refused fault (code_from image at)
   pub text : line ≡ fault_line at fault
 
 -- a line, and the lines from the next address on; n counts the instructions
-pub record GoesOn (image : Image) (at : ℕ) (lines : List ℕ) (n : ℕ) (Others : ℕ → List ℕ → ℕ → Type 0) : Type 0 where
+pub record ListsOn (image : Image) (at : ℕ) (lines : List ℕ) (n : ℕ) (Others : ℕ → List ℕ → ℕ → Type 0) : Type 0 where
   pub line : List ℕ
   pub next : ℕ
   pub lists : Lists image at line next
@@ -65,7 +65,7 @@ pub record GoesOn (image : Image) (at : ℕ) (lines : List ℕ) (n : ℕ) (Other
 -- place where none stands of that place, and no more; n counts the instructions
 unfoldable pub AreLines : Image → ℕ → ℕ → List ℕ → ℕ → Type 0
 AreLines image zero at lines n = (lines ≡ []) × (n ≡ 0)
-AreLines image (suc count) at lines n = GoesOn image at lines n (λ next others more. AreLines image count next others more) ⊎ (Refuses image at lines × (n ≡ 0))
+AreLines image (suc count) at lines n = ListsOn image at lines n (λ next others more. AreLines image count next others more) ⊎ (ListsRefusal image at lines × (n ≡ 0))
 
 -- the listing of at most `count` instructions from an address on
 pub record IsListing (image : Image) (at count : ℕ) (text : List ℕ) : Type 0 where
@@ -82,7 +82,7 @@ pub record AreAppended (image : Image) (count at : ℕ) (before after : List ℕ
 
 -- the line of an address is appended; the next address is that after its instruction, where one stands there
 abbrev pub IsLine : Image → ℕ → List ℕ → Option ℕ → Type 0
-IsLine image at line None = Refuses image at line
+IsLine image at line None = ListsRefusal image at line
 IsLine image at line (Some next) = Lists image at line next
 
 pub record IsAppended (image : Image) (at : ℕ) (before after : List ℕ) (next : Option ℕ) : Type 0 where

@@ -20,7 +20,7 @@ pub enum DemoFault {
     Memory,
 }
 
-/// The demo image of `n` blocks, and its stub file.
+/// The demo image of `n` blocks, and its stub file. Refuses exactly more than 2,000 blocks, or for want of memory.
 pub fn demo(alloc: Global, n: u32) -> Result<(Vec<u8>, Vec<u8>), DemoFault>
     ensures image { IfOk result (λ files. files.0.items ≡ demo_image n) }
     ensures stubs { IfOk result (λ files. files.1.items ≡ demo_stubs) }

@@ -2,7 +2,7 @@
 use Rattle.std.specs.Prelude.{ℕ, ◌+◌, ◌-◌, ◌*◌, ◌/◌, ◌%◌, ◌^◌, Bool, List, ◌&&◌, ◌||◌, ◌==◌, nat_le, is_some, unwrap_or, if◌then◌else◌, Option, None, option_and_then}
 use Rattle.std.specs.Option.{option_map}
 use Rattle.memory_map.specs.Range.{Range}
-use Rattle.file_pieces.specs.Found.{bytes_at, name_at}
+use Rattle.file_pieces.specs.Found.{bytes_at, name_from}
 use Rattle.elf32_reader.specs.declared.tables.Tables.{Tables}
 use Rattle.elf32_reader.specs.declared.symbol.Symbol.{Symbol}
 use Rattle.elf32_reader.specs.declared.reloc.RelocSymbol.{RelocSymbol}
@@ -28,7 +28,7 @@ symbol_at s index =
 
 -- the name of a symbol, where it is that of an import, and a 0 ends it within the string table and within one segment
 unfoldable pub import_name : Space → Symbol → Option (List ℕ)
-import_name s symbol = name_at s.ranges (s.bias + address_sum (unwrap_or s.tables.strtab 0) symbol.name) (unwrap_or s.tables.strtab_size 0 - symbol.name)
+import_name s symbol = name_from s.ranges (s.bias + address_sum (unwrap_or s.tables.strtab 0) symbol.name) (unwrap_or s.tables.strtab_size 0 - symbol.name)
 
 -- STT_NOTYPE or STT_FUNC
 abbrev pub has_import_type : Symbol → Bool

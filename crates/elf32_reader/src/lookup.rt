@@ -12,7 +12,7 @@ use crate::entry::Entry;
 use crate::relocation::{index_of_symbol, kind_of, needs_symbol};
 use crate::symbol::{Symbol, symbol_of};
 use crate::tables::Tables;
-use file_pieces::{bytes_at, is_in_one, name_at};
+use file_pieces::{bytes_at, is_in_one, name_from};
 use memory_map::Segments;
 use std::marker::Model;
 
@@ -182,7 +182,7 @@ impl<'a> Lookup<'a> {
     {
         let a = self.tables.strtab.unwrap_or(0).wrapping_add(symbol.name);
         let size = self.tables.strtab_size.unwrap_or(0);
-        name_at(
+        name_from(
             self.segments,
             u64::from(self.bias) + u64::from(a),
             u64::from(size.saturating_sub(symbol.name)),

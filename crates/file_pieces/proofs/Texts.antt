@@ -6,7 +6,7 @@ use Rattle.std.specs.List.{list_all}
 use Rattle.std.proofs.lemmas.Bool.{leb-true, leb-false, ne_eqb, and_parts}
 use Rattle.memory_map.specs.Name.{is_name, is_name_byte}
 use Rattle.memory_map.specs.Range.{Range}
-use Rattle.file_pieces.specs.Found.{text_of, name_of, name_at, rest_at}
+use Rattle.file_pieces.specs.Found.{text_of, name_of, name_from, rest_at}
 
 pub text_of-end : (b : ℕ) (bytes : List ℕ) → (b == 0) ≡ true → text_of (b ∷ bytes) ≡ Some []
 unfolding text_of
@@ -99,8 +99,8 @@ name_of-bounded bytes most bound h = by (nat_le most 4097) refl
         far cut (text_of-take bytes bound most (omega (arith, cut, more)))
 
 -- the look-up as code makes it
-pub name_at-is : (ranges : List Range) (a most bound : ℕ) (rest front : List ℕ) (text : Option (List ℕ)) → bound ≡ min most 4097 → rest ≡ rest_at ranges a → front ≡ take bound rest → text ≡ text_of front → name_of text ≡ name_at ranges a most
-name_at-is ranges a most bound rest front text h p q r =
+pub name_from-is : (ranges : List Range) (a most bound : ℕ) (rest front : List ℕ) (text : Option (List ℕ)) → bound ≡ min most 4097 → rest ≡ rest_at ranges a → front ≡ take bound rest → text ≡ text_of front → name_of text ≡ name_from ranges a most
+name_from-is ranges a most bound rest front text h p q r =
     ap name_of (r ∙ ap text_of (q ∙ ap (take bound) p)) ∙ name_of-bounded (rest_at ranges a) most bound h
 
 pub name_of-name : (text : List ℕ) (t : Bool) → t ≡ is_name text → t ≡ true → Some text ≡ name_of (Some text)

@@ -36,5 +36,5 @@ abbrev pub name_of : Option (List ℕ) → Option (List ℕ)
 name_of text = option_and_then (λ name. if is_name name then Some name else None) text
 
 -- the name that begins at an address: a text that is the name of an import, with a 0 after it, all within so many bytes and within one range
-abbrev pub name_at : List Range → ℕ → ℕ → Option (List ℕ)
-name_at ranges a most = name_of (text_of (take most (rest_at ranges a)))
+abbrev pub name_from : List Range → ℕ → ℕ → Option (List ℕ)
+name_from ranges a most = name_of (text_of (take most (rest_at ranges a)))

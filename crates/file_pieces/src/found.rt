@@ -3,7 +3,7 @@ ghost use Rattle.std.specs.Option.{option_map};
 ghost use Rattle.memory_map.specs.Map.{range_of};
 ghost use Rattle.memory_map.specs.Name.{is_name};
 ghost use Rattle.memory_map.specs.Range.{holds};
-ghost use Rattle.file_pieces.specs.Found.{bytes_at, is_in_one, name_at, passes_end, rest_at, text_of, IsHeld};
+ghost use Rattle.file_pieces.specs.Found.{bytes_at, is_in_one, name_from, passes_end, rest_at, text_of, IsHeld};
 
 use memory_map::{LONGEST_NAME, Segment, Segments, is_name};
 
@@ -106,9 +106,9 @@ fn front(bytes: &[u8], most: usize) -> &[u8]
 
 /// The name of an import that begins at an address, where a 0 ends it within `most` bytes and within one segment.
 /// A byte after the longest name is not looked at.
-pub fn name_at(segments: &Segments, a: u64, most: u64) -> Option<&[u8]>
+pub fn name_from(segments: &Segments, a: u64, most: u64) -> Option<&[u8]>
     requires { a + 1 < 2 ^ 64 }
-    ensures exact { option_copied result ≡ name_at (map range_of segments.now) a most }
+    ensures exact { option_copied result ≡ name_from (map range_of segments.now) a most }
     ensures name { IfSome result (λ name. IsTrue (is_name name.now)) }
 {
     let bound = most.min(LONGEST_NAME as u64 + 1);

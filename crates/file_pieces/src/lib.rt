@@ -7,7 +7,7 @@ mod found;
 mod names;
 mod piece;
 
-pub use found::{bytes_at, is_in_one, name_at, passes_end};
+pub use found::{bytes_at, is_in_one, name_from, passes_end};
 pub use names::{NameFault, Names, SeenNames};
 pub use piece::{Piece, map_pieces};
 

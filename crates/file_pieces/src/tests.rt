@@ -103,7 +103,7 @@ fn names_end_by_0_within_a_bound(rt: HostRuntime) -> Result<(), Fail> {
         (0x200A, 9, None),
         (0x1FFF, 9, None),
     ] {
-        assert!(rt; name_at(&segments, a, most) == want, "{most} at {a}");
+        assert!(rt; name_from(&segments, a, most) == want, "{most} at {a}");
     }
     Ok(())
 }

@@ -1,10 +1,8 @@
 -- An index of a location's rows finds one that covers a state where there is one.
-use Rattle.std.proofs.Common.{◌≡◌, ℕ, zero, suc, ◌<◌, ◌≤◌, Bool, true, false, cond, List, [], ◌∷◌, ◌++◌, length, map, Option, Some, None, refl, sym, ◌∙◌, ap, subst, inl, inr, arith, Any, Contains, slice_index_or, option_map, ◌⊎◌, ◌||◌, ◌&&◌, nat_eq}
+use Rattle.std.proofs.Common.{◌≡◌, ℕ, zero, suc, ◌<◌, ◌≤◌, Bool, true, false, cond, List, [], ◌∷◌, ◌++◌, length, map, Option, Some, None, refl, sym, ◌∙◌, ap, subst, inl, inr, arith, Any, Contains, slice_index_or, option_map, ◌⊎◌, ◌||◌, nat_eq}
 use Rattle.std.specs.Prelude.{slice_get}
 use Rattle.std.specs.List.{list_any}
-use Rattle.indexmap.specs.IndexMap.{get}
 use Rattle.std.specs.Option.{option_map_or}
-use Rattle.std.proofs.lemmas.Bool.{and_parts, eq-eqb, eqb-true}
 use Rattle.std.proofs.lemmas.List.Elements.{Contains-append_left, Contains-append_right}
 use Rattle.std.proofs.lemmas.List.{length-append}
 use Rattle.std.proofs.lemmas.List.Folds.{Any-from_list_any, list_any-from_Any}
@@ -18,12 +16,11 @@ use Rattle.partitioned_memory.specs.Pairs.{pair_before}
 use Rattle.abstract_state.specs.State.{Known, covers_state}
 use Rattle.flow_worklist.specs.declared.told.Told.{Told}
 use Rattle.flow_worklist.specs.declared.told.Told.TheVariants.{Numbers, Nothing, Unclear}
-use Rattle.flow_worklist.specs.contracts.told.ToldPartialEq.TheImpl as equality
 use Rattle.flow_worklist.specs.declared.row_index.Group.{Group}
 use Rattle.flow_worklist.specs.declared.row_index.RowIndex.{RowIndex}
 use Rattle.flow_worklist.specs.Covering.{covers_at, covers_by, row_nth}
-use Rattle.flow_worklist.specs.Telling.{told_at}
-use Rattle.flow_worklist.specs.Grouping.{HasPlace, IsIn, IsIndexOf, covers_in, covers_nth, places_at, same_key}
+use Rattle.flow_worklist.specs.Telling.{digest_with, told_at}
+use Rattle.flow_worklist.specs.Grouping.{HasPlace, IsIn, IsInRest, IsIndexOf, covers_in, covers_nth, covers_told, places_at}
 use Rattle.flow_worklist.proofs.Telling.{told-agrees}
 
 same-answers : (b c : Bool) → (b ≡ true → c ≡ true) → (c ≡ true → b ≡ true) → b ≡ c
@@ -45,51 +42,28 @@ any-passes p xs x (k, within, at) passes = list_any-from_Any p xs (k, x, within,
 
 -- ---- keys
 
-told-is : (a b : Told) → equality.ghosts.eq a b ≡ true → a ≡ b
-told-is (Numbers x) (Numbers y) e = ap Numbers (eqb-true x y e)
-told-is Nothing Nothing e = refl
-told-is Unclear Unclear e = refl
-told-is a b e = absurd (cc)
-
-told-refl : (a : Told) → equality.ghosts.eq a a ≡ true
-told-refl (Numbers x) = eq-eqb x x refl
-told-refl Nothing = refl
-told-refl Unclear = refl
-
-pub key-is : (a b : ℕ × Told) → same_key a b ≡ true → a ≡ b
-key-is a b e =
-    let both = and_parts (nat_eq a.0 b.0) (equality.ghosts.eq a.1 b.1) e in
-    let number : a.0 ≡ b.0 = eqb-true a.0 b.0 both.0 in
-    let told : a.1 ≡ b.1 = told-is a.1 b.1 both.1 in
-    λ i. (number i, told i)
-
-pub key-refl : (a : ℕ × Told) → same_key a a ≡ true
-key-refl a = ap (λ b. b && equality.ghosts.eq a.1 a.1) (eq-eqb a.0 a.0 refl) ∙ told-refl a.1
-
 -- what is under a key stays under it as a place is put under some key
-pub put-kept : {V : Type 0} (items : V → List ℕ) (key q : ℕ × Told) (before taken after : Option V) (there : List ℕ) (v : V) (place p : ℕ)
-    → after ≡ cond (same_key key q) (Some v) taken
-    → (same_key key q ≡ false → option_map_or items taken [] ≡ option_map_or items before [])
-    → (same_key key q ≡ true → option_map_or items before [] ≡ there)
+pub put-kept : {V : Type 0} (items : V → List ℕ) (key q : ℕ) (before taken after : Option V) (there : List ℕ) (v : V) (place p : ℕ)
+    → after ≡ cond (nat_eq key q) (Some v) taken
+    → (nat_eq key q ≡ false → option_map_or items taken [] ≡ option_map_or items before [])
+    → (nat_eq key q ≡ true → option_map_or items before [] ≡ there)
     → items v ≡ there ++ place ∷ []
     → Contains (option_map_or items before []) p → Contains (option_map_or items after []) p
-put-kept items key q before taken after there v place p put apart same more h = by (same_key key q) refl
+put-kept items key q before taken after there v place p put apart same more h = by (nat_eq key q) refl
   where
-    by : (b : Bool) → same_key key q ≡ b → Contains (option_map_or items after []) p
+    by : (b : Bool) → nat_eq key q ≡ b → Contains (option_map_or items after []) p
     by true is =
         subst (λ (l : List ℕ). Contains l p) (sym (ap (λ o. option_map_or items o []) (put ∙ ap (λ b. cond b (Some v) taken) is) ∙ more))
         (Contains-append_left there (place ∷ []) p (subst (λ (l : List ℕ). Contains l p) (same is) h))
     by false is =
         subst (λ (l : List ℕ). Contains l p) (sym (ap (λ o. option_map_or items o []) (put ∙ ap (λ b. cond b (Some v) taken) is) ∙ apart is)) h
 
--- places are in a group without holders that is pushed
+-- a place is in a group without holders that is pushed
 pub rest-pushed : (new : RowIndex) (before : List Group) (group : Group) (place : ℕ) → new.groups.items ≡ before ++ group ∷ [] → group.holders.items ≡ []
-    → Contains (places_at new (group.number, Numbers 0)) place → Contains (places_at new (group.number, Unclear)) place
-    → Any (λ (g : Group). (g.holders.items ≡ []) × (Contains (places_at new (g.number, Numbers 0)) place × Contains (places_at new (g.number, Unclear)) place)) new.groups.items
-rest-pushed new before group place groups none by_numbers by_group =
+    → Contains (places_at new (digest_with 0 group.number)) place → Any (IsInRest new place) new.groups.items
+rest-pushed new before group place groups none has =
     let last = Contains-append_right before (group ∷ []) group (0, omega arith, refl) in
-    subst (λ (gs : List Group). Any (λ (g : Group). (g.holders.items ≡ []) × (Contains (places_at new (g.number, Numbers 0)) place × Contains (places_at new (g.number, Unclear)) place)) gs) (sym groups)
-    (last.0, group, last.1, last.2, (none, (by_numbers, by_group)))
+    subst (λ (gs : List Group). Any (IsInRest new place) gs) (sym groups) (last.0, group, last.1, last.2, record { none = none; has = has })
 
 -- ---- rows by their places
 
@@ -139,48 +113,32 @@ module _ {D : Type 0} (d : Values D) where
 
   -- ---- an index
 
-  in-kept : (old new : RowIndex) (place : ℕ) (s : Known D) (group : Group) → ((key : ℕ × Told) (p : ℕ) → Contains (places_at old key) p → Contains (places_at new key) p) → IsIn d old place s group → IsIn d new place s group
-  in-kept old new place s group kept h = record {
-    digest = h.digest;
-    told = h.told;
-    by_numbers = kept (group.number, Numbers h.digest) place h.by_numbers;
-    by_group = kept (group.number, Unclear) place h.by_group;
-  }
+  in-kept : (old new : RowIndex) (place : ℕ) (s : Known D) (group : Group) → ((k : ℕ) (p : ℕ) → Contains (places_at old k) p → Contains (places_at new k) p) → IsIn d old place s group → IsIn d new place s group
+  in-kept old new place s group kept h = record { digest = h.digest; told = h.told; has = kept (digest_with h.digest group.number) place h.has }
 
   -- what has a place keeps it
   pub place-kept : (old new : RowIndex) (more : List Group) (place : ℕ) (s : Known D) → new.groups.items ≡ old.groups.items ++ more
-      → ((key : ℕ × Told) (p : ℕ) → Contains (places_at old key) p → Contains (places_at new key) p) → HasPlace d old place s → HasPlace d new place s
+      → ((k : ℕ) (p : ℕ) → Contains (places_at old k) p → Contains (places_at new k) p) → HasPlace d old place s → HasPlace d new place s
   place-kept old new more place s groups kept h =
       subst (λ (gs : List Group). Any (IsIn d new place s) gs) (sym groups)
       (any-more (IsIn d old place s) (IsIn d new place s) old.groups.items more (λ group. in-kept old new place s group kept) h)
 
-  -- also as groups come before the others
-  pub place-before : (old new : RowIndex) (more : List Group) (place : ℕ) (s : Known D) → new.groups.items ≡ more ++ old.groups.items → new.places ≡ old.places → HasPlace d old place s → HasPlace d new place s
-  place-before old new more place s groups places (k, group, within, at, h) =
-      let there = Contains-append_right more old.groups.items group (k, within, at) in
-      let same : IsIn d new place s group = in-kept old new place s group
-      (λ key p q. subst (λ (l : List ℕ). Contains l p) (ap (λ m. option_map_or (λ v. v.items) (get same_key m key) []) (sym places)) q) h in
-      subst (λ (gs : List Group). Any (IsIn d new place s) gs) (sym groups) (there.0, group, there.1, there.2, same)
-
   -- a state that holds the numbers of a group that is there has the place at which it is put in
   pub place-put : (old new : RowIndex) (place : ℕ) (s : Known D) (number digest : ℕ) → new.groups ≡ old.groups
       → Any (λ (g : Group). (g.number ≡ number) × (told_at d g.holders.items s ≡ Numbers digest)) old.groups.items
-      → Contains (places_at new (number, Numbers digest)) place → Contains (places_at new (number, Unclear)) place → HasPlace d new place s
-  place-put old new place s number digest groups (k, g, within, at, (numbered, told)) by_numbers by_group =
+      → Contains (places_at new (digest_with digest number)) place → HasPlace d new place s
+  place-put old new place s number digest groups (k, g, within, at, (numbered, told)) has =
       let there = Any-at (IsIn d new place s) old.groups.items k g within at (record {
         digest = digest;
         told = told;
-        by_numbers = subst (λ (n : ℕ). Contains (places_at new (n, Numbers digest)) place) (sym numbered) by_numbers;
-        by_group = subst (λ (n : ℕ). Contains (places_at new (n, Unclear)) place) (sym numbered) by_group;
+        has = subst (λ (n : ℕ). Contains (places_at new (digest_with digest n)) place) (sym numbered) has;
       }) in
       subst (λ (gs : List Group). Any (IsIn d new place s) gs) (ap (λ v. v.items) (sym groups)) there
 
   -- and so has each in a group without holders
-  pub place-rest : (new : RowIndex) (place : ℕ) (s : Known D)
-      → Any (λ (g : Group). (g.holders.items ≡ []) × (Contains (places_at new (g.number, Numbers 0)) place × Contains (places_at new (g.number, Unclear)) place)) new.groups.items
-      → HasPlace d new place s
-  place-rest new place s (k, g, within, at, (none, (by_numbers, by_group))) =
-      (k, g, within, at, record { digest = 0; told = ap (λ hs. told_at d hs s) none; by_numbers = by_numbers; by_group = by_group })
+  pub place-rest : (new : RowIndex) (place : ℕ) (s : Known D) → Any (IsInRest new place) new.groups.items → HasPlace d new place s
+  place-rest new place s (k, g, within, at, rest) =
+      (k, g, within, at, record { digest = 0; told = ap (λ hs. told_at d hs s) rest.none; has = rest.has })
 
   -- an index by the rows' places is one of their states
   pub index-made : (index : RowIndex) (rows : List (Row (Known D))) (numbers : List ℕ) (here : List (Row (Known D))) → map (slice_get rows) numbers ≡ map Some here
@@ -222,11 +180,17 @@ module _ {D : Type 0} (d : Values D) where
       where
         by : (told_at d group.holders.items s ≡ Numbers h.digest) ⊎ (told_at d group.holders.items s ≡ Unclear) → covers_nth d rows numbers s place ≡ true → covers_in d index rows numbers s group ≡ true
         by (inl same) passes =
-            ap (λ x. list_any (covers_nth d rows numbers s) (places_at index (group.number, x))) same
-            ∙ any-passes (covers_nth d rows numbers s) (places_at index (group.number, Numbers h.digest)) place h.by_numbers passes
-        by (inr same) passes =
-            ap (λ x. list_any (covers_nth d rows numbers s) (places_at index (group.number, x))) same
-            ∙ any-passes (covers_nth d rows numbers s) (places_at index (group.number, Unclear)) place h.by_group passes
+            ap (covers_told d index rows numbers s group) same
+            ∙ any-passes (covers_nth d rows numbers s) (places_at index (digest_with h.digest group.number)) place h.has passes
+        by (inr same) passes = ap (covers_told d index rows numbers s group) same ∙ placed-covers rows numbers s place passes
+
+    -- what a group answers is a row's
+    told-covers : (index : RowIndex) (rows : List (Row (Known D))) (numbers : List ℕ) (group : Group) (told : Told) → covers_told d index rows numbers s group told ≡ true → list_any (covers_at d rows s) numbers ≡ true
+    told-covers index rows numbers group (Numbers digest) e =
+        let place = Any-from_list_any (covers_nth d rows numbers s) (places_at index (digest_with digest group.number)) e in
+        placed-covers rows numbers s place.1 (place.4)
+    told-covers index rows numbers group Nothing e = absurd (cc)
+    told-covers index rows numbers group Unclear e = e
 
     -- the index answers what all rows of the location do
     pub index-covers : (index : RowIndex) (rows : List (Row (Known D))) (numbers : List ℕ) (here : List (Row (Known D)))
@@ -236,9 +200,7 @@ module _ {D : Type 0} (d : Values D) where
         same-answers (list_any (covers_in d index rows numbers s) index.groups.items) (list_any (covers_at d rows s) numbers)
         (λ e.
         let group = Any-from_list_any (covers_in d index rows numbers s) index.groups.items e in
-        let key : ℕ × Told = ((group.1).number, told_at d (group.1).holders.items s) in
-        let place = Any-from_list_any (covers_nth d rows numbers s) (places_at index key) (group.4) in
-        placed-covers rows numbers s place.1 (place.4))
+        told-covers index rows numbers (group.1) (told_at d (group.1).holders.items s) (group.4))
         (λ e.
         let one = covers-placed rows numbers s e in
         let state : slice_get (map (λ (row : Row (Known D)). row.state) here) one.place ≡ Some (one.row).state =

@@ -15,7 +15,7 @@ use Rattle.abstract_state.specs.State.{IsWellState, Known, covers_state}
 use Rattle.abstract_state.specs.Widening.{seen_of, seen_with}
 use Rattle.flow_worklist.specs.declared.visits.Visits.{Visits}
 use Rattle.flow_worklist.specs.declared.row_index.RowIndex.{RowIndex}
-use Rattle.flow_worklist.specs.Covering.{covers_at, covers_by, states_of}
+use Rattle.flow_worklist.specs.Covering.{covers_at, states_of}
 use Rattle.flow_worklist.specs.Grouping.{IsIndexOf}
 use Rattle.flow_worklist.specs.Exploring.{IsOf, IsKept, IsSeenOf, index_in, seen_in}
 
@@ -24,7 +24,7 @@ fold_more f a [] x = refl
 fold_more f a (y ∷ xs) x = fold_more f (f a y) xs x
 
 -- what numbers stand for stays as a list grows
-numbers_kept : {X : Type 0} (xs more : List X) (ns : List ℕ) (found : List X) → map (slice_get xs) ns ≡ map Some found → map (slice_get (xs ++ more)) ns ≡ map Some found
+pub numbers_kept : {X : Type 0} (xs more : List X) (ns : List ℕ) (found : List X) → map (slice_get xs) ns ≡ map Some found → map (slice_get (xs ++ more)) ns ≡ map Some found
 numbers_kept xs more [] [] e = refl
 numbers_kept xs more [] (x ∷ found) e = cc
 numbers_kept xs more (n ∷ ns) [] e = cc
@@ -34,7 +34,7 @@ numbers_kept xs more (n ∷ ns) (x ∷ found) e =
     ap (λ o. o ∷ map (slice_get (xs ++ more)) ns) (slice_get-append xs more n x here) ∙ ap (λ l. Some x ∷ l) (numbers_kept xs more ns found rest)
 
 -- and the last element has its number
-numbers_more : {X : Type 0} (xs : List X) (x : X) (ns : List ℕ) (found : List X) → map (slice_get xs) ns ≡ map Some found
+pub numbers_more : {X : Type 0} (xs : List X) (x : X) (ns : List ℕ) (found : List X) → map (slice_get xs) ns ≡ map Some found
     → map (slice_get (xs ++ x ∷ [])) (ns ++ length xs ∷ []) ≡ map Some (found ++ x ∷ [])
 numbers_more xs x ns found e =
     map-append (slice_get (xs ++ x ∷ [])) ns (length xs ∷ [])

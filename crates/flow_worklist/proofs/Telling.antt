@@ -1,5 +1,5 @@
 -- What a covering state tells of numbers, its states tell too, or they do not tell.
-use Rattle.std.proofs.Common.{◌≡◌, ℕ, zero, suc, Bool, true, false, cond, List, [], ◌∷◌, map, Option, Some, None, refl, sym, ◌∙◌, ap, subst, ◌==◌, inl, inr, arith, ℤ, fold, find, option_map, ◌⊎◌, ◌&&◌}
+use Rattle.std.proofs.Common.{◌≡◌, ℕ, Bool, true, false, cond, List, [], ◌∷◌, map, Option, Some, None, refl, sym, ◌∙◌, ap, subst, ◌==◌, inl, inr, arith, ℤ, fold, find, option_map, ◌⊎◌, ◌&&◌}
 use Rattle.std.specs.List.{list_all}
 use Rattle.std.proofs.lemmas.Bool.{and_parts, eqb-true}
 use Rattle.std.proofs.lemmas.Int.{ints}
@@ -25,7 +25,7 @@ use Rattle.abstract_state.specs.Flags.{covers_flags}
 use Rattle.abstract_state.specs.Notes.{covers_note}
 use Rattle.abstract_state.specs.Registers.{covers_registers}
 use Rattle.abstract_state.specs.State.{Known, covers_state}
-use Rattle.abstract_state.specs.Widening.{holder_of, same_holder}
+use Rattle.abstract_state.specs.Widening.{holder_of}
 use Rattle.abstract_state.proofs.Covering.{first, rest}
 use Rattle.abstract_state.proofs.Seeing.{same_holder-is}
 use Rattle.flow_worklist.specs.declared.told.Told.{Told}

@@ -1,15 +1,16 @@
-ghost use Rattle.std.specs.Prelude.{◌≡◌, [], ◌++◌, Any, false, Contains, IfOk, IfSome, List, OnOk, Some, ℕ, length, option_copied, slice_get};
+ghost use Rattle.std.specs.Prelude.{◌≡◌, ◌++◌, Any, false, Contains, IfOk, IfSome, List, OnOk, Some, ℕ, nat_eq, option_copied, slice_get};
 ghost use Rattle.std.specs.List.{list_any};
 ghost use Rattle.domain_laws.specs.Made.{values_of};
 ghost use Rattle.abstract_state.specs.State.{Known};
 ghost use Rattle.flow_log.specs.Log.{Row as LogRow};
-ghost use Rattle.flow_worklist.specs.Telling.{told_at};
+ghost use Rattle.flow_worklist.specs.Telling.{digest_with, told_at};
+ghost use Rattle.flow_worklist.specs.declared.told.Told.TheVariants as told;
 ghost use Rattle.flow_worklist.specs.Covering.{covers_at, row_nth, row_of};
-ghost use Rattle.flow_worklist.specs.Grouping.{HasPlace, covers_in, covers_nth, places_at, same_key};
+ghost use Rattle.flow_worklist.specs.Grouping.{HasPlace, IsInRest, covers_in, covers_nth, places_at};
 
 use crate::Row;
 use crate::parting::parting;
-use crate::told::{Told, told_at};
+use crate::told::{Told, digest_with, told_at};
 use abstract_state::{Holder, State};
 use bit_words::NoMemory;
 use domain_laws::Domain;
@@ -19,30 +20,24 @@ use std::alloc::Global;
 /// Rows whose states have a number at each of some holders. No other group has its number.
 #[derive(Drop)]
 pub struct Group {
-    pub number: usize,
+    pub number: u64,
     pub holders: Vec<Holder>,
 }
 
-/// Where the rows of a location stand among its rows: by the number of a group, and under the numbers that their states have there; under
-/// `Unclear` stand all rows of the group. Rows that no group has come into a last one, which has no holders.
+/// Where the rows of a location stand among its rows: under a digest of a group's number and of the numbers that their states have there. Rows that no
+/// other group has come into a last one, which has no holders.
 #[derive(Drop)]
 pub struct RowIndex {
     pub groups: Vec<Group>,
-    pub places: IndexMap<(usize, Told), Vec<usize>>,
-    // A group, and the numbers there that the newest row shares with many others.
-    pub crowded: Option<(usize, u64)>,
+    pub places: IndexMap<u64, Vec<usize>>,
+    // How many rows there were as it was made.
+    pub made: usize,
+    // Whether the newest row shares its digest with many others.
+    pub crowded: bool,
 }
 
-// So many rows of a group with the same numbers, or a multiple of that, are many. By the newest so many the holders of another group are chosen.
-const CROWD: usize = 16;
-
-fn crowd_of(group: usize, digest: u64, count: usize) -> Option<(usize, u64)> {
-    if count % CROWD == 0 {
-        Some((group, digest))
-    } else {
-        None
-    }
-}
+// So many rows of one digest, or a multiple of that, are many.
+const CROWD: usize = 4;
 
 // Whether the row of a number covers a state.
 fn covers_at<D: Domain>(rows: &[Row<D>], s: &State<D>, number: usize) -> bool
@@ -99,25 +94,41 @@ pub fn covers_any<D: Domain>(rows: &[Row<D>], numbers: &[usize], s: &State<D>) -
 }
 
 impl RowIndex {
-    /// No row yet; takes no memory.
-    pub fn new(alloc: Global) -> RowIndex {
+    // No row yet, of so many that are to come; takes no memory.
+    fn new(alloc: Global, made: usize) -> RowIndex {
         RowIndex {
             groups: Vec::new(alloc),
             places: IndexMap::new(alloc),
-            crowded: None,
+            made,
+            crowded: false,
         }
     }
 
-    fn places_at(&self, group: usize, told: Told) -> &[usize]
-        ensures { result.now ≡ places_at self.now (group, told) }
+    fn places_at(&self, key: u64) -> &[usize]
+        ensures { result.now ≡ places_at self.now key }
     {
-        match self.places.get(&(group, told)) {
+        match self.places.get(&key) {
             Some(places) => places.as_slice(),
             None => &[],
         }
     }
 
-    // Whether a row of a group covers a state, among those that may.
+    // Whether one of the rows under a key covers a state.
+    fn covers_under<D: Domain>(
+        &self,
+        rows: &[Row<D>],
+        numbers: &[usize],
+        s: &State<D>,
+        key: u64,
+    ) -> bool
+        ensures { result ≡ list_any (covers_nth (values_of D.Domain.own D.eq) rows.now numbers.now s.now) (places_at self.now key) }
+    {
+        self.places_at(key)
+            .iter()
+            .any(|place| covers_nth(rows, numbers, s, *place))
+    }
+
+    // Whether a row of a group covers a state, among those that may; among all, where the state does not tell its numbers there.
     fn covers_in<D: Domain>(
         &self,
         rows: &[Row<D>],
@@ -127,10 +138,13 @@ impl RowIndex {
     ) -> bool
         ensures { result ≡ covers_in (values_of D.Domain.own D.eq) self.now rows.now numbers.now s.now group.now }
     {
-        let told = told_at(group.holders.as_slice(), s);
-        self.places_at(group.number, told)
-            .iter()
-            .any(|place| covers_nth(rows, numbers, s, *place))
+        match told_at(group.holders.as_slice(), s) {
+            Told::Numbers(digest) => {
+                self.covers_under(rows, numbers, s, digest_with(digest, group.number))
+            }
+            Told::Nothing => false,
+            Told::Unclear => covers_any(rows, numbers, s),
+        }
     }
 
     /// Whether a row covers a state, among those that may.
@@ -143,8 +157,8 @@ impl RowIndex {
     }
 
     // A group at whose holders a state has numbers, and their digest.
-    fn group_of<D: Domain>(&self, s: &State<D>) -> Option<(usize, u64)>
-        ensures { IfSome result (λ r. Any (λ g. (g.number ≡ r.0) × (told_at (values_of D.Domain.own D.eq) g.holders.items s.now ≡ Told.Numbers r.1)) self.now.groups.items) }
+    fn group_of<D: Domain>(&self, s: &State<D>) -> Option<(u64, u64)>
+        ensures { IfSome result (λ r. Any (λ g. (g.number ≡ r.0) × (told_at (values_of D.Domain.own D.eq) g.holders.items s.now ≡ told.Numbers r.1)) self.now.groups.items) }
     {
         for group in &self.groups {
             if let Told::Numbers(digest) = told_at(group.holders.as_slice(), s) {
@@ -155,54 +169,40 @@ impl RowIndex {
     }
 
     // The places under a key, taken out.
-    fn take(&mut self, group: usize, told: Told) -> Vec<usize>
-        ensures places { result.items ≡ places_at self.old (group, told) }
+    fn take(&mut self, key: u64) -> Vec<usize>
+        ensures places { result.items ≡ places_at self.old key }
         ensures groups { self.new.groups ≡ self.old.groups }
-        ensures others { (key : ℕ × Told) → same_key (group, told) key ≡ false → places_at self.new key ≡ places_at self.old key }
+        ensures others { (k : ℕ) → nat_eq key k ≡ false → places_at self.new k ≡ places_at self.old k }
     {
         let alloc = *self.groups.allocator();
-        match self.places.swap_remove(&(group, told)) {
+        match self.places.swap_remove(&key) {
             Some(places) => places,
             None => Vec::new(alloc),
         }
     }
 
-    // One place more under a key. Answers how many there are.
-    fn put(&mut self, group: usize, told: Told, place: usize) -> Result<usize, NoMemory>
-        ensures count { IfOk result (λ n. n ≡ length (places_at self.new (group, told))) }
+    // One place more under a key.
+    fn put(&mut self, key: u64, place: usize) -> Result<(), NoMemory>
         ensures groups { self.new.groups ≡ self.old.groups }
-        ensures has { OnOk result (Contains (places_at self.new (group, told)) place) }
-        ensures kept { OnOk result ((key : ℕ × Told) (p : ℕ) → Contains (places_at self.old key) p → Contains (places_at self.new key) p) }
+        ensures has { OnOk result (Contains (places_at self.new key) place) }
+        ensures kept { OnOk result ((k : ℕ) (p : ℕ) → Contains (places_at self.old k) p → Contains (places_at self.new k) p) }
     {
-        let mut places = self.take(group, told);
+        let mut places = self.take(key);
         places.push(place)?;
-        let count = places.len();
-        self.places.insert((group, told), places)?;
-        Ok(count)
-    }
-
-    // One place more in a group.
-    fn put_in(&mut self, group: usize, digest: u64, place: usize) -> Result<(), NoMemory>
-        ensures groups { self.new.groups ≡ self.old.groups }
-        ensures by_numbers { OnOk result (Contains (places_at self.new (group, Told.Numbers digest)) place) }
-        ensures by_group { OnOk result (Contains (places_at self.new (group, Told.Unclear)) place) }
-        ensures kept { OnOk result ((key : ℕ × Told) (p : ℕ) → Contains (places_at self.old key) p → Contains (places_at self.new key) p) }
-    {
-        let count = self.put(group, Told::Numbers(digest), place)?;
-        self.put(group, Told::Unclear, place)?;
-        self.crowded = crowd_of(group, digest, count);
+        self.crowded = places.len() % CROWD == 0;
+        self.places.insert(key, places)?;
         Ok(())
     }
 
     // The group that has no holders, with one place.
     fn push_rest(&mut self, place: usize) -> Result<(), NoMemory>
-        ensures has { OnOk result (Any (λ g. (g.holders.items ≡ []) × (Contains (places_at self.new (g.number, Told.Numbers 0)) place × Contains (places_at self.new (g.number, Told.Unclear)) place)) self.new.groups.items) }
+        ensures has { OnOk result (Any (IsInRest self.new place) self.new.groups.items) }
         ensures groups { OnOk result ((more : List Group) × (self.new.groups.items ≡ self.old.groups.items ++ more)) }
-        ensures kept { OnOk result ((key : ℕ × Told) (p : ℕ) → Contains (places_at self.old key) p → Contains (places_at self.new key) p) }
+        ensures kept { OnOk result ((k : ℕ) (p : ℕ) → Contains (places_at self.old k) p → Contains (places_at self.new k) p) }
     {
-        let number = self.groups.len();
+        let number = self.groups.len() as u64;
         let holders = Vec::new(*self.groups.allocator());
-        self.put_in(number, 0, place)?;
+        self.put(digest_with(0, number), place)?;
         self.groups.push(Group { number, holders })?;
         Ok(())
     }
@@ -213,10 +213,7 @@ impl RowIndex {
         ensures kept { OnOk result ((p : ℕ) (t : Known D) → HasPlace (values_of D.Domain.own D.eq) self.old p t → HasPlace (values_of D.Domain.own D.eq) self.new p t) }
     {
         match self.group_of(s) {
-            Some((group, digest)) => {
-                self.put_in(group, digest, place)?;
-                Ok(())
-            }
+            Some((group, digest)) => self.put(digest_with(digest, group), place),
             None => {
                 self.push_rest(place)?;
                 Ok(())
@@ -224,67 +221,18 @@ impl RowIndex {
         }
     }
 
-    // The holders of a group; none where there is no such group.
-    fn holders_of(&self, group: usize) -> Result<Vec<Holder>, NoMemory> {
-        let mut holders = Vec::new(*self.groups.allocator());
-        for other in &self.groups {
-            if other.number == group {
-                holders.extend_from_slice(&other.holders)?;
-            }
-        }
-        Ok(holders)
+    /// Whether another index would tell more of so many rows apart, so that it is worth its making: many rows share the newest one's digest, and there are
+    /// twice as many rows as when it was made.
+    pub fn is_due(&self, count: usize) -> bool {
+        self.crowded && self.made <= count / 2
     }
 
-    // The holders of another group, for many rows of the same numbers: those of their group, and some at which the newest have numbers that differ.
-    fn crowd_holders<D: Domain>(
-        &self,
-        rows: &[Row<D>],
-        numbers: &[usize],
-        group: usize,
-        digest: u64,
-    ) -> Result<Vec<Holder>, NoMemory> {
-        let alloc = *self.groups.allocator();
-        let crowd = self.places_at(group, Told::Numbers(digest));
-        let newest = &crowd[crowd.len().saturating_sub(CROWD)..];
-        let mut more = parting(alloc, rows, numbers, newest)?;
-        if more.is_empty() {
-            return Ok(more);
-        }
-        let mut holders = self.holders_of(group)?;
-        holders.append(&mut more)?;
-        Ok(holders)
-    }
-
-    // The same, where many rows share the newest one's numbers; else none.
-    fn more_holders<D: Domain>(
-        &self,
-        rows: &[Row<D>],
-        numbers: &[usize],
-    ) -> Result<Vec<Holder>, NoMemory> {
-        match self.crowded {
-            Some((group, digest)) => self.crowd_holders(rows, numbers, group, digest),
-            None => Ok(Vec::new(*self.groups.allocator())),
-        }
-    }
-
-    /// A group more, where many rows of one share the newest one's numbers.
-    pub fn part<D: Domain>(&mut self, rows: &[Row<D>], numbers: &[usize]) -> Result<(), NoMemory>
-        ensures { OnOk result ((p : ℕ) (t : Known D) → HasPlace (values_of D.Domain.own D.eq) self.old p t → HasPlace (values_of D.Domain.own D.eq) self.new p t) }
-    {
-        let holders = self.more_holders(rows, numbers)?;
-        self.push_group(holders)
-    }
-
-    // A group more, before the others, which has no row yet; none without holders.
-    fn push_group(&mut self, holders: Vec<Holder>) -> Result<(), NoMemory>
-        ensures groups { OnOk result ((more : List Group) × (self.new.groups.items ≡ more ++ self.old.groups.items)) }
-        ensures places { self.new.places ≡ self.old.places }
-    {
+    // The first group; none without holders.
+    fn push_first(&mut self, holders: Vec<Holder>) -> Result<(), NoMemory> {
         if holders.is_empty() {
             return Ok(());
         }
-        let number = self.groups.len();
-        self.groups.insert(0, Group { number, holders })?;
+        self.groups.push(Group { number: 0, holders })?;
         Ok(())
     }
 }
@@ -311,12 +259,8 @@ fn parted<D: Domain>(
     rows: &[Row<D>],
     numbers: &[usize],
 ) -> Result<RowIndex, NoMemory> {
-    let mut newest = Vec::new(alloc);
-    for place in numbers.len().saturating_sub(CROWD)..numbers.len() {
-        newest.push(place)?;
-    }
-    let mut index = RowIndex::new(alloc);
-    index.push_group(parting(alloc, rows, numbers, &newest)?)?;
+    let mut index = RowIndex::new(alloc, numbers.len());
+    index.push_first(parting(alloc, rows, numbers)?)?;
     Ok(index)
 }
 

@@ -10,7 +10,7 @@ use partitioned_memory::{Fact, Held, Spot};
 use std::alloc::Global;
 
 /// What a state tells of the numbers at some holders.
-#[derive(Clone, Copy, Debug, PartialEq, Eq, Hash)]
+#[derive(Clone, Copy, Debug)]
 pub enum Told {
     /// Each holds one number, and this is a digest of them.
     Numbers(u64),
@@ -20,13 +20,11 @@ pub enum Told {
     Unclear,
 }
 
-// One number more in a digest.
-fn digest_with(digest: u64, n: u32) -> u64
+/// One number more in a digest.
+pub fn digest_with(digest: u64, n: u64) -> u64
     ensures { result ≡ digest_with digest n }
 {
-    digest
-        .wrapping_mul(0x100_0000_01B3)
-        .wrapping_add(u64::from(n))
+    digest.wrapping_mul(0x100_0000_01B3).wrapping_add(n)
 }
 
 // The value of what is held at a spot, where it is of a width.
@@ -66,7 +64,7 @@ fn told_value<D: Domain>(digest: u64, value: Option<D>) -> Told
 {
     match value {
         Some(v) => match v.number_of() {
-            Some(n) => Told::Numbers(digest_with(digest, n)),
+            Some(n) => Told::Numbers(digest_with(digest, u64::from(n))),
             None => {
                 if v.rank() == 0 {
                     Told::Nothing

@@ -1,4 +1,4 @@
-ghost use Rattle.std.specs.Prelude.{◌≡◌, ◌∷◌, ◌++◌, [], List, None, Some, IfOk, OnOk, length, option_map, slice_get};
+ghost use Rattle.std.specs.Prelude.{◌≡◌, ◌∷◌, ◌++◌, [], List, None, Some, IfOk, IfSome, OnOk, length, option_map, slice_get};
 ghost use Rattle.std.specs.Option.{option_map_or};
 ghost use Rattle.std.specs.List.{list_any};
 ghost use Rattle.domain_laws.specs.Made.{values_of};
@@ -103,7 +103,7 @@ impl<D: Domain> Visits<D> {
         }
     }
 
-    /// An index of the rows, where there are many; one that is there is parted further as it grows.
+    /// An index of the rows, where there are many; made anew where that tells more of them apart.
     pub fn index_many(&mut self, alloc: Global, at: u32, rows: &[Row<D>]) -> Result<(), NoMemory>
         requires { IsOf (values_of D.Domain.own D.eq) self.old at rows.now }
         ensures { OnOk result (IsOf (values_of D.Domain.own D.eq) self.new at rows.now) }
@@ -111,13 +111,12 @@ impl<D: Domain> Visits<D> {
         if self.numbers.len() < INDEXED {
             return Ok(());
         }
-        let mut index = self.take_index(alloc, at, rows)?;
-        index.part(rows, &self.numbers)?;
+        let index = self.take_index(alloc, at, rows)?;
         self.index = Some(index);
         Ok(())
     }
 
-    // An index of these rows, taken out; made, where none is.
+    // An index of these rows, taken out; made, where none is that serves.
     fn take_index(
         &mut self,
         alloc: Global,
@@ -129,12 +128,30 @@ impl<D: Domain> Visits<D> {
         ensures numbers { self.new.numbers ≡ self.old.numbers }
         ensures seen { self.new.seen ≡ self.old.seen }
     {
-        match self.index.take() {
+        match self.take_kept() {
             Some(index) => Ok(index),
             None => {
                 let index = index_of(alloc, rows, &self.numbers)?;
                 Ok(Box::new(alloc, index)?)
             }
+        }
+    }
+
+    // The index that is kept, taken out, unless another is due.
+    fn take_kept(&mut self) -> Option<Box<RowIndex>>
+        ensures index { IfSome result (λ index. Some index.value ≡ index_in self.old) }
+        ensures numbers { self.new.numbers ≡ self.old.numbers }
+        ensures seen { self.new.seen ≡ self.old.seen }
+    {
+        match self.index.take() {
+            Some(index) => {
+                if index.is_due(self.numbers.len()) {
+                    None
+                } else {
+                    Some(index)
+                }
+            }
+            None => None,
         }
     }
 

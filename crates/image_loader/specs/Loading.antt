@@ -7,7 +7,7 @@ use Rattle.elf32_reader.specs.declared.fault.ElfFault.{ElfFault}
 use Rattle.pe_headers.specs.Faults.{lacks_magic}
 use Rattle.pe_headers.specs.declared.fault.PeFault.{PeFault}
 use Rattle.pe32_reader.specs.Image.{PeImage, image_of, shown as pe_shown}
-use Rattle.image_loader.specs.FaultNumber.{number_of}
+use Rattle.image_loader.specs.FaultNumber.{load_fault_number}
 use Rattle.image_loader.specs.declared.fault.LoadFault.{LoadFault}
 use Rattle.image_loader.specs.declared.fault.LoadFault.TheVariants as faults
 use Rattle.image_loader.specs.declared.loaded.Loaded.{Loaded}
@@ -40,7 +40,7 @@ load_of bytes =
 
 abbrev pub fault_in : Result LaidOut LoadFault → Option ℕ
 fault_in (Ok l) = None
-fault_in (Err fault) = number_of fault
+fault_in (Err fault) = load_fault_number fault
 
 -- the number of the first fault of a file, where it has one
 abbrev pub first_fault : List ℕ → Option ℕ

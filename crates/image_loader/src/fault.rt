@@ -1,5 +1,5 @@
 ghost use Rattle.std.specs.Prelude.{◌≡◌};
-ghost use Rattle.image_loader.specs.FaultNumber.{elf_number, number_of, pe_number};
+ghost use Rattle.image_loader.specs.FaultNumber.{elf_fault_number, load_fault_number, pe_fault_number};
 
 use elf32_reader::ElfFault;
 use pe_headers::PeFault;
@@ -16,8 +16,8 @@ pub enum LoadFault {
     Memory,
 }
 
-fn elf_number(fault: ElfFault) -> Option<u32>
-    ensures { result ≡ elf_number fault }
+fn elf_fault_number(fault: ElfFault) -> Option<u32>
+    ensures { result ≡ elf_fault_number fault }
 {
     match fault {
         ElfFault::Short => Some(1),
@@ -41,8 +41,8 @@ fn elf_number(fault: ElfFault) -> Option<u32>
     }
 }
 
-fn pe_number(fault: PeFault) -> Option<u32>
-    ensures { result ≡ pe_number fault }
+fn pe_fault_number(fault: PeFault) -> Option<u32>
+    ensures { result ≡ pe_fault_number fault }
 {
     match fault {
         PeFault::Short => Some(101),
@@ -65,11 +65,11 @@ fn pe_number(fault: PeFault) -> Option<u32>
 /// The number by which a refusal is told: of an ELF file 1 to 17, of a PE file 101 to 113, each by its fault's place in the
 /// order in which they are tried, and 200 for a file of neither format. None exactly for want of memory.
 pub fn fault_number(f: &LoadFault) -> Option<u32>
-    ensures { result ≡ number_of f.now }
+    ensures { result ≡ load_fault_number f.now }
 {
     match f {
-        LoadFault::Elf(fault) => elf_number(*fault),
-        LoadFault::Pe(fault) => pe_number(*fault),
+        LoadFault::Elf(fault) => elf_fault_number(*fault),
+        LoadFault::Pe(fault) => pe_fault_number(*fault),
         LoadFault::Unknown => Some(200),
         LoadFault::Memory => None,
     }

@@ -32,9 +32,10 @@ use Rattle.partitioned_memory.specs.Well.{HasCount, IsWell}
 use Rattle.partitioned_memory.specs.Describes.{IsApart, IsDescribed, IsFresh, bytes_in, number_in}
 use Rattle.partitioned_memory.proofs.BlockKept.{block-keeps}
 use Rattle.partitioned_memory.proofs.Bytes.{byte-from}
-use Rattle.partitioned_memory.proofs.CallsKept.{forget-keeps, int_eq-true}
+use Rattle.partitioned_memory.proofs.CallsKept.{forget-keeps}
 use Rattle.partitioned_memory.proofs.FactsKept.{beside-keeps, exact-keeps}
 use Rattle.partitioned_memory.proofs.Spread.{spread-apart}
+use Rattle.partitioned_memory.proofs.Orders.{int_eq-true}
 use Rattle.stub_file.specs.declared.stub.Reply.{Reply}
 use Rattle.stub_file.specs.declared.stub.Stub.{Stub}
 use Rattle.x86_semantics.specs.Memory.{with_number}

@@ -9,10 +9,9 @@ use bit_words::NoMemory;
 use domain_laws::Domain;
 use flow_log::Cause;
 use image_loader::Image;
+use memory_map::ESP;
 use std::alloc::Global;
 use stub_file::{Reply, Stub, Stubs};
-
-const ESP: u8 = 4;
 
 impl Call<'_> {
     // A call with the stack pointer at an offset.

@@ -16,16 +16,8 @@ use address_regions::Region;
 use bit_words::{NoMemory, Width};
 use domain_laws::Domain;
 use flow_log::Cause;
-use memory_map::USER_END;
+use memory_map::{EAX, ECX, EDX, ESP, USER_END};
 use stub_file::{Reply, Stub};
-
-const EAX: u8 = 0;
-
-const ECX: u8 = 1;
-
-const EDX: u8 = 2;
-
-const ESP: u8 = 4;
 
 // No block is larger.
 const LARGEST_BLOCK: u32 = 67_108_864;

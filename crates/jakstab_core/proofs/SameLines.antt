@@ -1,16 +1,14 @@
 -- Automata of one text have the same edges, and mark the same addresses open.
-use Rattle.std.proofs.Common.{◌≡◌, ◌⊎◌, inl, inr, ℕ, ◌<◌, ◌^◌, ◌/◌, ◌%◌, ◌==◌, Bool, true, false, List, [], ◌∷◌, ◌++◌, length, map, get_or, Option, None, Some, refl, sym, ◌∙◌, ap, subst, arith, append_assoc, append-nil, decimal, nat_lt}
+use Rattle.std.proofs.Common.{◌≡◌, ◌⊎◌, inl, inr, ℕ, ◌<◌, ◌^◌, ◌==◌, Bool, true, false, List, [], ◌∷◌, ◌++◌, length, map, get_or, Option, None, Some, refl, sym, ◌∙◌, ap, subst, arith, append_assoc, decimal, nat_lt}
 use Rattle.std.specs.Prelude.{All, Contains, codes, flat_map, ◌&&◌, ◌||◌, if◌then◌else◌}
 use Rattle.std.specs.List.{list_all}
 use Rattle.std.specs.Str.{bytes_eq}
 use Rattle.std.proofs.lemmas.Bool.Decides.{nat_tests}
 use Rattle.std.proofs.lemmas.Slice.Eq.{bytes_eq-Decides}
-use Rattle.std.proofs.lemmas.List.Elements.{All-append, All-contains, Contains-append_cases, Contains-append_left, Contains-append_right}
-use Rattle.std.proofs.lemmas.List.Splits.{slice_split_at}
-use Rattle.std.proofs.lemmas.List.Sums.{AllPass-from_list_all}
+use Rattle.std.proofs.lemmas.List.Elements.{All-append, Contains-append_cases, Contains-append_left, Contains-append_right}
 use Rattle.memory_map.specs.Image.{EXIT_PLACE}
 use Rattle.text_fields.specs.Fields.{word_of}
-use Rattle.text_fields.specs.Hex.{hex8, hex_bytes, hex_digit, hex_digits, hex2, hex_text}
+use Rattle.text_fields.specs.Hex.{hex8, hex_bytes, hex_text}
 use Rattle.text_fields.specs.Line.{newline, space}
 use Rattle.text_fields.specs.Lines.{fields, lines}
 use Rattle.text_fields.proofs.FieldTexts.{bytes_read, word_read}
@@ -25,14 +23,16 @@ use Rattle.automaton_text.specs.declared.automaton.OpenMark.{OpenMark}
 use Rattle.automaton_text.specs.declared.automaton.Automaton.{Automaton}
 use Rattle.automaton_text.specs.Laws.{FitsTypes, fits_edge, fits_label, fits_location, fits_mark, fits_name, fits_row, is_word}
 use Rattle.automaton_text.specs.Orderly.{edge_text}
-use Rattle.automaton_text.specs.Text.{cause_text, code_text, edge_line, end_line, entry_line, header_line, import_suffix, is_version, label_text, loc_line, open_line, suffix_of, text_of}
+use Rattle.automaton_text.specs.Text.{cause_text, edge_line, end_line, entry_line, header_line, import_suffix, is_version, loc_line, open_line, suffix_of, text_of}
 use Rattle.std.proofs.lemmas.Bool.{and_parts}
-use Rattle.text_fields.proofs.PlainTexts.{is_plain, plain_bytes, plain_decimal, plain_is, plain_word}
-use Rattle.automaton_text.proofs.ClearTexts.{clear_both, clear_code, is_clear, plain_cause, plain_clear, plain_name}
+use Rattle.text_fields.proofs.PlainTexts.{plain_decimal, plain_is, plain_word}
+use Rattle.automaton_text.proofs.ClearTexts.{clear_both, is_clear, plain_cause, plain_clear, plain_name, clear_word}
 use Rattle.automaton_text.proofs.FieldsTold.{row_list}
-use Rattle.automaton_text.proofs.ReadBack.{clear_is}
+use Rattle.automaton_text.proofs.ReadBack.{clear_is, bytes_small, edge_clear, edge_parts, label_fields, not_import, plain_rows, word_small}
 use Rattle.automaton_text.proofs.Told.{edge_whole, end_whole, mark_whole}
 use Rattle.run_replayer.specs.Verdict.{open_of}
+use Rattle.std.proofs.lemmas.Option.{same_Some}
+use Rattle.table_check.proofs.Closing.{all_of}
 
 -- ---- texts by their lines
 
@@ -61,9 +61,6 @@ lined_fields : (word : List ℕ) (fs : List (List ℕ)) → is_clear word ≡ tr
 lined_fields word fs clear fields_plain = lined_one (word ++ spaced fs) (All-append (λ b. (b == 10) ≡ false) word (spaced fs) (clear_is word clear) (spaced_line fs fields_plain))
 
 -- ---- small facts
-
-word_small : (n : ℕ) → is_word n ≡ true → n < 2 ^ 32
-word_small n e = grind (arith, nat_tests)
 
 version_small : (v : ℕ) → is_version v ≡ true → v < 2 ^ 64
 version_small v e = by_tests (v == 1) (v == 2) refl refl e
@@ -102,9 +99,6 @@ count_fields a = decimal (length a.locations) ∷ decimal (length a.edges) ∷ d
 end_body : Automaton → List ℕ
 end_body a = codes "end" ++ spaced (count_fields a)
 
-clear_word : (n : ℕ) → is_clear (hex8 n) ≡ true
-clear_word n = plain_clear (hex8 n) (plain_word n)
-
 header_lined : (v : ℕ) → v < 2 ^ 64 → Lined (header_line v) (header_body v ∷ [])
 unfolding header_body
 header_lined v small = lined_clear (codes "jakstab-automaton " ++ decimal v) (clear_both (codes "jakstab-automaton ") (decimal v) refl (plain_clear (decimal v) (plain_decimal v small)))
@@ -125,20 +119,6 @@ loc_lined l fits =
     lined_clear (codes "loc " ++ hex8 l.at ++ suffix_of l)
     (clear_both (codes "loc " ++ hex8 l.at) (suffix_of l) (clear_both (codes "loc ") (hex8 l.at) refl (clear_word l.at)) (clear_suffix (l.at == EXIT_PLACE) l.name f.1))
 
-label_clear : (from : ℕ) (label : Label) → fits_label label ≡ true → is_clear (label_text from label) ≡ true
-unfolding label_text
-label_clear from (Code bytes) fits =
-    clear_both (hex_text bytes.items ++ space) (code_text from bytes.items) (clear_both (hex_text bytes.items) space (plain_clear (hex_text bytes.items) (plain_bytes bytes.items)) refl) (clear_code from bytes.items)
-label_clear from (Import name) fits = clear_both (codes "import ") name refl (plain_clear name (plain_name name fits))
-
-edge_clear : (x : Edge) → fits_label x.label ≡ true → is_clear (codes "edge " ++ edge_text x) ≡ true
-unfolding edge_text
-edge_clear x fits =
-    clear_both (codes "edge ") (hex8 x.from ++ space ++ hex8 x.to ++ space ++ label_text x.from x.label) refl
-    (clear_both (hex8 x.from ++ space ++ hex8 x.to ++ space) (label_text x.from x.label)
-    (clear_both (hex8 x.from ++ space ++ hex8 x.to) space (clear_both (hex8 x.from ++ space) (hex8 x.to) (clear_both (hex8 x.from) space (clear_word x.from) refl) (clear_word x.to)) refl)
-    (label_clear x.from x.label fits))
-
 edge_label : (x : Edge) → fits_edge x ≡ true → fits_label x.label ≡ true
 edge_label x fits = (and_parts (is_word x.from && is_word x.to) (fits_label x.label) fits).1
 
@@ -152,10 +132,6 @@ unfolding edge_body
 edge_lined x fits =
     let P : List ℕ → Type 0 = λ text. Lined text ((codes "edge " ++ edge_text x) ∷ []) in
     subst P (edge_whole x) (lined_clear (codes "edge " ++ edge_text x) (edge_clear x (edge_label x fits)))
-
-plain_rows : (row : Option ℕ) → fits_row row ≡ true → ArePlain (row_list row)
-plain_rows None fits = plain.none
-plain_rows (Some row) fits = let small : row < 2 ^ 32 = word_small row fits in plain.one (decimal row) [] (plain_is (decimal row) (plain_decimal row (omega arith))) plain.none
 
 mark_plain : (m : OpenMark) → fits_mark m ≡ true → ArePlain (mark_fields m)
 unfolding mark_fields
@@ -292,40 +268,16 @@ no_mark_line m x same = absurd (let e : ◌≡◌ {A = ℕ} 112 100 = ap second 
 
 -- ---- what a line says
 
-some_same : {A : Type 0} (x y : A) → Some x ≡ Some y → x ≡ y
-some_same x y e = cc
-
 word_same : (m n : ℕ) → m < 2 ^ 32 → n < 2 ^ 32 → hex8 m ≡ hex8 n → m ≡ n
-word_same m n small less e = some_same m n (sym (word_read m small) ∙ ap word_of e ∙ word_read n less)
-
-bytes_small : (bytes : List ℕ) → list_all (λ b. nat_lt b (2 ^ 8)) bytes ≡ true → (k d : ℕ) → k < length bytes → get_or bytes k d < 2 ^ 8
-bytes_small bytes e k d below = small (get_or bytes k d) (AllPass-from_list_all (λ b. nat_lt b (2 ^ 8)) bytes e k d below)
-  where
-    small : (b : ℕ) → nat_lt b (2 ^ 8) ≡ true → b < 2 ^ 8
-    small b h = grind (arith, nat_tests)
+word_same m n small less e = same_Some m n (sym (word_read m small) ∙ ap word_of e ∙ word_read n less)
 
 bytes_same : (b c : List ℕ) → list_all (λ b. nat_lt b (2 ^ 8)) b ≡ true → list_all (λ b. nat_lt b (2 ^ 8)) c ≡ true → hex_text b ≡ hex_text c → b ≡ c
-bytes_same b c small less e = some_same b c (sym (bytes_read b (bytes_small b small)) ∙ ap hex_bytes e ∙ bytes_read c (bytes_small c less))
-
-digit_no_letter : (d : ℕ) → d < 16 → (hex_digit d == 105) ≡ false
-unfolding hex_digit
-digit_no_letter d small = grind (arith, nat_tests)
-
-not_import : (bytes : List ℕ) → bytes_eq (hex_text bytes) (codes "import") ≡ false
-unfolding hex_text hex2 hex_digits
-not_import [] = refl
-not_import (b ∷ bytes) =
-    let first : (hex_digit (b / 16 % 16) == 105) ≡ false = digit_no_letter (b / 16 % 16) (omega arith) in
-    ap (λ t. t && bytes_eq (hex_digit (b % 16) ∷ hex_text bytes) (codes "mport")) first
+bytes_same b c small less e = same_Some b c (sym (bytes_read b (bytes_small b small)) ∙ ap hex_bytes e ∙ bytes_read c (bytes_small c less))
 
 no_import : (bytes : List ℕ) → hex_text bytes ≡ codes "import" → ⊥
 no_import bytes e =
     let yes : bytes_eq (hex_text bytes) (codes "import") ≡ true = (bytes_eq-Decides (hex_text bytes) (codes "import")).1 e in
     (let bad : false ≡ true = sym (not_import bytes) ∙ yes in cc)
-
-abbrev label_fields : ℕ → Label → List (List ℕ)
-label_fields from (Code bytes) = hex_text bytes.items ∷ fields (code_text from bytes.items)
-label_fields from (Import name) = codes "import" ∷ name ∷ []
 
 abbrev first_of : List (List ℕ) → List ℕ
 first_of fs = get_or fs 0 []
@@ -340,44 +292,12 @@ label_same f g (Import m) (Import n) fits also e = let names : m ≡ n = ap (λ 
 label_same f g (Code b) (Import n) fits also e = absurd (no_import b.items (let hex : hex_text b.items ≡ codes "import" = ap first_of e in hex))
 label_same f g (Import m) (Code c) fits also e = absurd (no_import c.items (let hex : codes "import" ≡ hex_text c.items = ap first_of e in sym hex))
 
--- the first field of a line, whatever is behind it
-fields_first : (first rest : List ℕ) → is_plain first ≡ true → fields (first ++ (32 ∷ rest)) ≡ first ∷ fields rest
-unfolding fields
-fields_first first rest is = slice_split_at (λ b. b == 32) first 32 rest (no_space first is) refl
-  where
-    apart : (b : ℕ) → 32 < b → (b == 32) ≡ false
-    apart b h = grind (arith, nat_tests)
-
-    no_space : (field : List ℕ) → is_plain field ≡ true → All (λ b. (b == 32) ≡ false) field
-    no_space field e k d below = apart (get_or field k d) (plain_is field e k d below)
-
-three_spaced : (a b l : List ℕ) → (((a ++ space) ++ b) ++ space) ++ l ≡ a ++ (32 ∷ (b ++ (32 ∷ l)))
-three_spaced a b l = simp append_assoc
-
-one_field : (name : List ℕ) → is_plain name ≡ true → fields name ≡ name ∷ []
-one_field name e = ap fields (sym (append-nil name)) ∙ fields_spaced name [] (plain_is name e) plain.none
-
-label_parts : (from : ℕ) (label : Label) → fits_label label ≡ true → fields (label_text from label) ≡ label_fields from label
-unfolding label_text
-label_parts from (Code bytes) fits =
-    ap fields (append_assoc (hex_text bytes.items) space (code_text from bytes.items)) ∙ fields_first (hex_text bytes.items) (code_text from bytes.items) (plain_bytes bytes.items)
-label_parts from (Import name) fits = fields_first (codes "import") name refl ∙ ap (λ l. codes "import" ∷ l) (one_field name (plain_name name fits))
-
-edge_parts : (x : Edge) → fits_label x.label ≡ true → fields (edge_body x) ≡ codes "edge" ∷ hex8 x.from ∷ hex8 x.to ∷ label_fields x.from x.label
-unfolding edge_text edge_body
-edge_parts x fits =
-    let label : List ℕ = label_text x.from x.label in
-    ap (λ l. fields (codes "edge " ++ l)) (three_spaced (hex8 x.from) (hex8 x.to) label)
-    ∙ fields_first (codes "edge") (hex8 x.from ++ (32 ∷ (hex8 x.to ++ (32 ∷ label)))) refl
-    ∙ ap (λ l. codes "edge" ∷ l) (fields_first (hex8 x.from) (hex8 x.to ++ (32 ∷ label)) (plain_word x.from))
-    ∙ ap (λ l. codes "edge" ∷ hex8 x.from ∷ l) (fields_first (hex8 x.to) label (plain_word x.to))
-    ∙ ap (λ l. codes "edge" ∷ hex8 x.from ∷ hex8 x.to ∷ l) (label_parts x.from x.label fits)
-
 abbrev behind_three : List (List ℕ) → List (List ℕ)
 behind_three (a ∷ b ∷ c ∷ fs) = fs
 behind_three _ = []
 
 edge_same : (x e : Edge) → fits_edge x ≡ true → fits_edge e ≡ true → edge_body x ≡ edge_body e → x ≡ e
+unfolding edge_body
 edge_same x e fits also same =
     let parts : codes "edge" ∷ hex8 x.from ∷ hex8 x.to ∷ label_fields x.from x.label ≡ codes "edge" ∷ hex8 e.from ∷ hex8 e.to ∷ label_fields e.from e.label =
     sym (edge_parts x (edge_label x fits)) ∙ ap fields same ∙ edge_parts e (edge_label e also) in
@@ -404,9 +324,6 @@ mark_same m n fits also same =
 
 -- ---- whole automata
 
-fits_of : {X : Type 0} (p : X → Bool) (xs : List X) (x : X) → list_all p xs ≡ true → Contains xs x → p x ≡ true
-fits_of p xs x all held = All-contains (λ x. p x ≡ true) xs x (AllPass-from_list_all p xs all) held
-
 module _ (a b : Automaton) (fits : FitsTypes a) (also : FitsTypes b) (version : is_version a.version ≡ true) (other : is_version b.version ≡ true) (same : text_of a ≡ text_of b) where
   moved : (y : List ℕ) → Contains (bodies b) y → Contains (bodies a ++ ([] ∷ [])) y
   moved y held = let P : List (List ℕ) → Type 0 = λ l. Contains l y in subst P (same_bodies a b fits also version other same) (Contains-append_left (bodies b) ([] ∷ []) y held)
@@ -426,7 +343,7 @@ module _ (a b : Automaton) (fits : FitsTypes a) (also : FitsTypes b) (version : 
   pub same_edges : (x : Edge) → Contains b.edges x → Contains a.edges x
   same_edges x held =
       elim (in_bodies a (edge_body x) (edge_apart a x) (moved (edge_body x) (edge_held x held))) [
-        | inl t ↦ (let P : Edge → Type 0 = Contains a.edges in subst P (edge_same t.0 x (fits_of fits_edge a.edges t.0 fits.edges t.1) (fits_of fits_edge b.edges x also.edges held) t.2) t.1)
+        | inl t ↦ (let P : Edge → Type 0 = Contains a.edges in subst P (edge_same t.0 x (all_of fits_edge a.edges t.0 fits.edges t.1) (all_of fits_edge b.edges x also.edges held) t.2) t.1)
         | inr t ↦ absurd (no_mark_line t.0 x t.2)
       ]
 
@@ -435,7 +352,7 @@ module _ (a b : Automaton) (fits : FitsTypes a) (also : FitsTypes b) (version : 
       elim (in_bodies a (mark_body m) (mark_apart a m) (moved (mark_body m) (mark_held m held))) [
         | inl t ↦ absurd (no_mark_line m t.0 (sym t.2))
         | inr t ↦ (let P : ℕ → Type 0 = Contains (open_of a) in
-            subst P (mark_same t.0 m (fits_of fits_mark a.marks t.0 fits.marks t.1) (fits_of fits_mark b.marks m also.marks held) t.2)
+            subst P (mark_same t.0 m (all_of fits_mark a.marks t.0 fits.marks t.1) (all_of fits_mark b.marks m also.marks held) t.2)
             (Contains-map (λ (m : OpenMark). m.at) a.marks t.0 t.1))
       ]
 

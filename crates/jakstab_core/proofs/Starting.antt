@@ -1,6 +1,6 @@
 -- The line of a fault of a start is near, and what was read of a file of its limit is little.
-use Rattle.std.proofs.Common.{◌≡◌, ℕ, ◌+◌, ◌<◌, ◌≤◌, ◌^◌, Bool, true, false, List, [], ◌∷◌, ◌++◌, length, Option, None, Some, Ok, Err, refl, sym, subst, arith}
-use Rattle.std.specs.Prelude.{Result, codes, flat_map, option_map, position, not, if◌then◌else◌}
+use Rattle.std.proofs.Common.{◌≡◌, ℕ, ◌+◌, ◌<◌, ◌≤◌, ◌^◌, Bool, true, false, List, [], ◌++◌, length, Option, None, Some, Err, subst, arith}
+use Rattle.std.specs.Prelude.{codes, flat_map, option_map, position, not, if◌then◌else◌}
 use Rattle.std.proofs.lemmas.List.{length-append}
 use Rattle.std.proofs.lemmas.List.Quantifiers.{position-Some}
 use Rattle.memory_map.specs.declared.choice.Fill.{Fill as Filling}
@@ -18,6 +18,7 @@ use Rattle.run_replayer.specs.declared.run_fault.RunFault.TheVariants as run_fau
 use Rattle.run_replayer.specs.StartRefused.{IsRefused}
 use Rattle.run_replayer.specs.Texts.{bases_line, choice_lines, end_word, fill_line, flags_line, record_header, record_text, regs_line, start_header, start_lines, start_text, step_lines}
 use Rattle.jakstab_core.specs.Due.{IsNear, IsNearRun}
+use Rattle.automaton_text.proofs.Told.{lines_few}
 
 -- ---- the fill that has the fault is one of the fills
 
@@ -58,14 +59,6 @@ behind_front a b = let whole : length (a ++ b) ≡ length a + length b = length-
 
 before_behind : (a b : List ℕ) → length a ≤ length (a ++ b)
 before_behind a b = let whole : length (a ++ b) ≡ length a + length b = length-append a b in omega arith
-
-lines_few : {X : Type 0} (f : X → List ℕ) → ((x : X) → 0 < length (f x)) → (xs : List X) → length xs ≤ length (flat_map f xs)
-lines_few f some [] = omega arith
-lines_few f some (x ∷ xs) =
-    let here = some x in
-    let others = lines_few f some xs in
-    let whole : length (f x ++ flat_map f xs) ≡ length (f x) + length (flat_map f xs) = length-append (f x) (flat_map f xs) in
-    omega arith
 
 some_fill : (f : Filling) → 0 < length (fill_line f)
 unfolding fill_line

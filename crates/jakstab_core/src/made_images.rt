@@ -3,20 +3,23 @@ ghost use Rattle.std.specs.Prelude.{◌<◌, ◌^◌, length};
 
 use demo_images::form_e;
 use image_loader::{Image, load};
-use memory_map::{Bytes, Format, ImportName, Items, Name, Perm, Ranges, Segment, Segments, Span};
+use memory_map::{
+    Bytes, EAX, EBP, EBX, ECX, EDI, EDX, ESI, ESP, Format, ImportName, Items, Name, Perm, Ranges,
+    Segment, Segments, Span,
+};
 use std::alloc::Global;
 use std::test::Fail;
 use stub_file::Stubs;
 
 pub const REGISTERS: [(&str, u8); 8] = [
-    ("eax", 0),
-    ("ecx", 1),
-    ("edx", 2),
-    ("ebx", 3),
-    ("esp", 4),
-    ("ebp", 5),
-    ("esi", 6),
-    ("edi", 7),
+    ("eax", EAX),
+    ("ecx", ECX),
+    ("edx", EDX),
+    ("ebx", EBX),
+    ("esp", ESP),
+    ("ebp", EBP),
+    ("esi", ESI),
+    ("edi", EDI),
 ];
 
 pub fn register_number(name: &str) -> Option<u8> {

@@ -8,8 +8,8 @@ use abstract_state::State;
 use bounded_values::Bounded;
 use domain_laws::{Domain, FlatNumbers};
 use image_loader::Image;
+use interval_values::Interval;
 use memory_map::{Format, Perm, Span};
-use number_lines::Lined;
 use std::alloc::Global;
 use std::test::Fail;
 use transfer_functions::{KnownCode, known_code};
@@ -158,7 +158,7 @@ fn each_expansion_is_as_defined(rt: HostRuntime) -> Result<(), Fail> {
     assert_eq!(rt; bounded.as_str(), "");
     let flat = differences::<FlatNumbers>(rt.alloc(), rows::FLAT)?;
     assert_eq!(rt; flat.as_str(), "");
-    let lined = differences::<Lined>(rt.alloc(), rows::LINED)?;
-    assert_eq!(rt; lined.as_str(), "");
+    let intervals = differences::<Interval>(rt.alloc(), rows::INTERVALS)?;
+    assert_eq!(rt; intervals.as_str(), "");
     Ok(())
 }

@@ -1,3 +1,4 @@
+pub mod Ascending
 pub mod Lists
 pub mod Faults
 pub mod Access

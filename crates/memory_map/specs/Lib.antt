@@ -1,3 +1,4 @@
+pub mod Ascending
 pub mod Range
 pub mod Spans
 pub mod Indexing

@@ -33,7 +33,7 @@ pub use items::Items;
 pub use name::{LONGEST_NAME, MOST_NAMES, Name, is_name};
 pub use perm::Perm;
 pub use ranges::Ranges;
-pub use registers::Regs;
+pub use registers::{EAX, EBP, EBX, ECX, EDI, EDX, ESI, ESP, Regs};
 pub use segment::{Segment, USER_END, USER_LOW};
 pub use segments::{MAPPED_BYTES, Segments};
 pub use span::{Span, sort_by_low};

@@ -1,6 +1,30 @@
 ghost use Rattle.std.specs.Prelude.{◌≡◌};
 ghost use Rattle.memory_map.specs.Registers.{every_register, register, with_register};
 
+/// The number by which instructions name EAX.
+pub const EAX: u8 = 0;
+
+/// The number by which instructions name ECX.
+pub const ECX: u8 = 1;
+
+/// The number by which instructions name EDX.
+pub const EDX: u8 = 2;
+
+/// The number by which instructions name EBX.
+pub const EBX: u8 = 3;
+
+/// The number by which instructions name ESP.
+pub const ESP: u8 = 4;
+
+/// The number by which instructions name EBP.
+pub const EBP: u8 = 5;
+
+/// The number by which instructions name ESI.
+pub const ESI: u8 = 6;
+
+/// The number by which instructions name EDI.
+pub const EDI: u8 = 7;
+
 /// A value for each of the eight general-purpose registers: a word, or what is known of one.
 #[derive(Clone, Copy, Debug, PartialEq, Eq)]
 pub struct Regs<V> {

@@ -139,7 +139,9 @@ fn are_allowed(list: &[Segment], from: u64, end: u64, perm: Perm) -> bool
 }
 
 impl Segments {
-    /// Maps segments together; an empty one maps nothing, and goes.
+    /// Maps segments together; an empty one maps nothing, and goes. Refuses, in this order, OutOfRange where another leaves
+    /// the addresses from 4,096 up to below F0000000, Overlap where two share a byte, and TooLarge where they have more than
+    /// 67,108,864 bytes; else only for want of memory.
     pub fn new(mut list: Vec<Segment>) -> Result<Segments, MapFault>
         ensures exact { MatchResult result (λ s. (s ≡ mapped list.items) × (map_fault (map range_of (mapped list.items)) ≡ None)) (λ e. (e ≡ MapFault.Memory) ⊎ (map_fault (map range_of (mapped list.items)) ≡ Some e)) }
         ensures map { IfOk result (λ s. IsMap (map range_of s)) }

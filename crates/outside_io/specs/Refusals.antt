@@ -5,11 +5,11 @@ use Rattle.outside_io.specs.declared.shelf.ShelfFault.{ShelfFault}
 use Rattle.outside_io.specs.declared.shelf.ShelfFault.TheVariants.{Failed, TooLong, Memory}
 
 -- the cause of each fault of a read: what the shelf tells, the count of faults before and after, the name and the limit
-abbrev pub Refused : Option Contents → ℕ → ℕ → List ℕ → ℕ → ShelfFault → Type 0
-Refused told before after name limit Failed = Rose before after
-Refused told before after name limit (TooLong seen) =
+abbrev pub IsReadRefused : Option Contents → ℕ → ℕ → List ℕ → ℕ → ShelfFault → Type 0
+IsReadRefused told before after name limit Failed = Rose before after
+IsReadRefused told before after name limit (TooLong seen) =
     (seen ≡ limit + 1) × WhereHeld told name (λ held. IsSomeAnd held (λ content. limit < length content))
-Refused told before after name limit Memory = ⊤
+IsReadRefused told before after name limit Memory = ⊤
 
 -- why a content is not copied
 abbrev pub Exceeds : List ℕ → ℕ → ShelfFault → Type 0

@@ -1,6 +1,6 @@
 ghost use Rattle.std.specs.Prelude.{◌≡◌, ◌≢◌, ℕ, List, ◌-◌, ◌<◌, ◌≤◌, ◌^◌, length, IfOk, IfErr, IsErrOf, OnOk, None};
 ghost use Rattle.outside_io.specs.Outside.{next_count, IsWhole};
-ghost use Rattle.outside_io.specs.Refusals.{Refused, Exceeds};
+ghost use Rattle.outside_io.specs.Refusals.{IsReadRefused, Exceeds};
 
 use crate::shelf::{Shelf, ShelfFault};
 use std::alloc::Global;
@@ -32,7 +32,7 @@ impl<R: Files + Drop> Shelf for FileShelf<R> {
     fn read_whole(&mut self, alloc: Global, name: &str, limit: u64) -> Result<Vec<u8>, ShelfFault>
         requires { limit < 2 ^ 64 - 1 }
         ensures whole { IfOk result (λ content. IsWhole None name.now limit content.items) }
-        ensures refused { IfErr result (λ fault. Refused None self.old.faults self.new.faults name.now limit fault) }
+        ensures refused { IfErr result (λ fault. IsReadRefused None self.old.faults self.new.faults name.now limit fault) }
         ensures failed { IsErrOf result ShelfFault.Failed → self.new.faults ≡ next_count self.old.faults }
         ensures read { OnOk result (self.new.faults ≡ self.old.faults) }
         ensures rising { self.old.faults ≤ self.new.faults }

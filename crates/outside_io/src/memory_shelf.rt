@@ -1,6 +1,6 @@
 ghost use Rattle.std.specs.Prelude.{◌≡◌, ◌≢◌, ℕ, List, Some, IsTrue, ◌-◌, ◌<◌, ◌≤◌, ◌^◌, ◌↔◌, ◌||◌, is_none, if◌then◌else◌, IfOk, IfErr, IsErrOf, OnOk, OnErr};
 ghost use Rattle.outside_io.specs.Outside.{held_in, IsWhole, is_listed, next_count};
-ghost use Rattle.outside_io.specs.Refusals.{Refused};
+ghost use Rattle.outside_io.specs.Refusals.{IsReadRefused};
 
 use crate::files::{Files, copy_of, put_file};
 use crate::shelf::{Shelf, ShelfFault};
@@ -63,7 +63,7 @@ impl Shelf for MemoryShelf {
     fn read_whole(&mut self, alloc: Global, name: &str, limit: u64) -> Result<Vec<u8>, ShelfFault>
         requires { limit < 2 ^ 64 - 1 }
         ensures whole { IfOk result (λ content. IsWhole (Some (held_in self.old.files)) name.now limit content.items) }
-        ensures refused { IfErr result (λ fault. Refused (Some (held_in self.old.files)) self.old.faults self.new.faults name.now limit fault) }
+        ensures refused { IfErr result (λ fault. IsReadRefused (Some (held_in self.old.files)) self.old.faults self.new.faults name.now limit fault) }
         ensures exact { IsErrOf result ShelfFault.Failed ↔ IsTrue (is_listed self.old.fail_at.items (next_count self.old.calls) || is_none (held_in self.old.files name.now)) }
         ensures faults { self.new.faults ≡ (if is_listed self.old.fail_at.items (next_count self.old.calls) || is_none (held_in self.old.files name.now) then next_count self.old.faults else self.old.faults) }
         ensures contents { self.new.files ≡ self.old.files }

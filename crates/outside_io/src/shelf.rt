@@ -1,6 +1,6 @@
 ghost use Rattle.std.specs.Prelude.{◌≡◌, ℕ, List, Option, ◌-◌, ◌<◌, ◌≤◌, ◌^◌, IfOk, IfErr};
 ghost use Rattle.outside_io.specs.Outside.{Contents, IsWhole};
-ghost use Rattle.outside_io.specs.Refusals.{Refused};
+ghost use Rattle.outside_io.specs.Refusals.{IsReadRefused};
 
 use std::alloc::Global;
 use thiserror::Error;
@@ -32,7 +32,7 @@ pub trait Shelf {
     fn read_whole(&mut self, alloc: Global, name: &str, limit: u64) -> Result<Vec<u8>, ShelfFault>
         requires { limit < 2 ^ 64 - 1 }
         ensures whole { IfOk result (λ content. IsWhole (contents self.old) name.now limit content.items) }
-        ensures refused { IfErr result (λ fault. Refused (contents self.old) (faults self.old name.now) (faults self.new name.now) name.now limit fault) }
+        ensures refused { IfErr result (λ fault. IsReadRefused (contents self.old) (faults self.old name.now) (faults self.new name.now) name.now limit fault) }
         ensures contents { contents self.new ≡ contents self.old }
         ensures rising { (other : List ℕ) → faults self.old other ≤ faults self.new other };
 }

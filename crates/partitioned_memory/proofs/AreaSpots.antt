@@ -1,9 +1,8 @@
 -- Facts by area: what is left where those of a region go, or those of the stack below an offset.
 use Rattle.std.proofs.Common.{◌≡◌, Bool, true, false, List, map, filter, None, Result, refl, sym, ap, ◌∙◌, subst, arith, ℤ, ◌<ℤ◌, inl, inr}
 use Rattle.std.specs.Prelude.{IfOk, ◌||◌, ◌&&◌, ◌⊎◌, not, int_lt}
-use Rattle.std.specs.Ordering.{is_lt, is_eq, ordering_reverse}
-use Rattle.std.specs.declared.cmp.Ordering.{Ordering}
-use Rattle.std.specs.declared.cmp.Ordering.TheVariants.{Less, Equal, Greater}
+use Rattle.std.specs.Ordering.{is_lt, is_eq}
+use Rattle.std.specs.declared.cmp.Ordering.TheVariants.{Less}
 use Rattle.std.proofs.lemmas.Bool.{false≢true, and_parts, not-false}
 use Rattle.std.proofs.lemmas.Int.{ints}
 use Rattle.std.proofs.lemmas.List.Elements.{filter_agree}
@@ -20,23 +19,8 @@ use Rattle.partitioned_memory.specs.Pairs.{IsParted, pair_before}
 use Rattle.partitioned_memory.specs.Held.{fact_at, fact_before, facts_outside, interval_of_fact, is_after_below, is_stack_below}
 use Rattle.partitioned_memory.proofs.ListLaws.{Ascends-filter}
 use Rattle.partitioned_memory.proofs.Cuts.{Falls-ascending, around-none}
-use Rattle.partitioned_memory.proofs.Orders.{Lies, area_total, before-lies, int_lt-from, int_lt-true, same_area-by_cmp, same_area-is}
+use Rattle.partitioned_memory.proofs.Orders.{Lies, area_total, before-lies, int_lt-from, int_lt-true, same_area-by_cmp, same_area-is, less-is, apart-by, other-by}
 use Rattle.partitioned_memory.proofs.FactSpots.{Ascends-facts, Falls-through, fact-filled, map-around, ok-mapped}
-
-less-is : (o : Ordering) → is_lt o ≡ true → o ≡ Less
-less-is Less e = refl
-less-is Equal e = absurd (cc)
-less-is Greater e = absurd (cc)
-
-apart-by : (o : Ordering) → is_lt o ≡ true → is_lt (ordering_reverse o) ≡ false
-apart-by Less e = refl
-apart-by Equal e = absurd (cc)
-apart-by Greater e = absurd (cc)
-
-other-by : (o : Ordering) → (is_lt o || is_lt (ordering_reverse o)) ≡ not (is_eq o)
-other-by Less = refl
-other-by Equal = refl
-other-by Greater = refl
 
 areas-apart : (a b : Area) → is_lt (area_cmp a b) ≡ true → is_lt (area_cmp b a) ≡ false
 areas-apart a b e = ap is_lt (area_total.antisymm b a) ∙ apart-by (area_cmp a b) e

@@ -1,12 +1,11 @@
 -- The test of lists of which parts may be built is right: it holds exactly of lists that are well.
-use Rattle.std.proofs.Common.{◌≡◌, ℕ, suc, zero, ◌+◌, ◌<◌, ◌^◌, Bool, true, false, List, [], ◌∷◌, length, get_or, map, take, drop, Option, Some, None, refl, sym, ap, ◌∙◌, subst, arith, ℤ, pos, neg_ℤ, ◌≤ℤ◌, inl, inr}
+use Rattle.std.proofs.Common.{◌≡◌, ℕ, suc, zero, ◌<◌, ◌^◌, Bool, true, false, List, [], ◌∷◌, map, take, drop, Option, Some, None, refl, sym, ap, ◌∙◌, subst, arith, ℤ, pos, neg_ℤ, ◌≤ℤ◌}
 use Rattle.std.specs.Prelude.{◌&&◌, ◌||◌, ◌==◌, ⊤, not, nat_lt, int_le, int_lt, slice_get}
-use Rattle.std.specs.List.{IsAllAdjacentAnswer, list_all}
+use Rattle.std.specs.List.{list_all}
 use Rattle.std.specs.Option.{option_map_or}
 use Rattle.std.proofs.lemmas.Bool.Decides.{nat_tests}
 use Rattle.std.proofs.lemmas.Int.{ints}
 use Rattle.std.specs.Ordering.{is_eq}
-use Rattle.std.specs.declared.cmp.Ordering.TheVariants.{Less}
 use Rattle.std.proofs.lemmas.Bool.{false≢true, and_parts, and_from, not-true}
 use Rattle.bit_words.specs.declared.width.Width.{Width}
 use Rattle.bit_words.specs.Width.{bits_of}
@@ -26,18 +25,18 @@ use Rattle.partitioned_memory.specs.declared.fact.Counted.{Counted}
 use Rattle.partitioned_memory.specs.declared.fact.Held.{Held}
 use Rattle.partitioned_memory.specs.declared.fact.Spot.{Spot}
 use Rattle.partitioned_memory.specs.Areas.{IsBounded, IsInside, area_cmp, block_in, bounds_of, by_area, is_marked, same_area}
-use Rattle.partitioned_memory.specs.Building.{are_blocks, are_sound_dirty, are_sound_facts, are_well, ascend, fits_width, has_count, is_block, is_counted_dirty, is_counted_fact, is_counted_value, is_sound_dirty, is_sound_fact, lies_inside}
+use Rattle.memory_map.specs.Ascending.{ascend}
+use Rattle.partitioned_memory.specs.Building.{are_blocks, are_sound_dirty, are_sound_facts, are_well, fits_width, has_count, is_block, is_counted_dirty, is_counted_fact, is_counted_value, is_sound_dirty, is_sound_fact, lies_inside}
 use Rattle.partitioned_memory.specs.Held.{PartsHeld, count_before, dirty_at, dirty_before, fact_at, fact_before, interval_of_dirty, interval_of_fact, is_counted, one_block, pair_of_dirty, pair_of_fact}
 use Rattle.partitioned_memory.specs.Lists.{Ascends, Every, Falls}
 use Rattle.partitioned_memory.specs.Pairs.{pair_before}
 use Rattle.partitioned_memory.specs.Well.{FitsWidth, HasCount, IsBlock, IsWell, IsWellDirty, IsWellFact}
 use Rattle.partitioned_memory.proofs.ListLaws.{Every-weaker, Every-both}
 use Rattle.partitioned_memory.proofs.Cuts.{Falls-ascending}
-use Rattle.partitioned_memory.proofs.Kept.{fact_before-trans}
-use Rattle.partitioned_memory.proofs.Orders.{area_total, by_area-true, by_area-less, same_area-by_cmp, int_le-true, int_le-from, int_lt-true, int_lt-from, is_left-trans}
+use Rattle.partitioned_memory.proofs.Kept.{count_before-less, count_before-trans, fact_before-trans}
+use Rattle.partitioned_memory.proofs.Orders.{same_area-by_cmp, int_le-true, int_le-from, int_lt-true, int_lt-from, is_left-trans}
 use Rattle.partitioned_memory.proofs.DirtySpots.{Ascends-ranges}
 use Rattle.partitioned_memory.proofs.FactSpots.{Ascends-facts}
-use Rattle.std.proofs.Math.Bool.{and-false}
 
 -- ---- tests
 
@@ -70,46 +69,12 @@ ascend-of before [] h = refl
 ascend-of before (x ∷ []) h = refl
 ascend-of before (x ∷ y ∷ ys) h = and_from (before x y) (ascend before (y ∷ ys)) h.0.0 (ascend-of before (y ∷ ys) h.1)
 
-count_before-less : (c e : Counted) → count_before c e ≡ true → area_cmp (In c.region) (In e.region) ≡ Less
-count_before-less c e h =
-    elim (by_area-true (area_cmp (In c.region) (In e.region)) false h) [
-      | inl less ↦ less
-      | inr same ↦ absurd (cc)
-    ]
-
-count_before-trans : (c e f : Counted) → count_before c e ≡ true → count_before e f ≡ true → count_before c f ≡ true
-count_before-trans c e f h k =
-    by_area-less (area_cmp (In c.region) (In f.region)) false (area_total.trans (In c.region) (In e.region) (In f.region) (count_before-less c e h) (count_before-less e f k))
-
 Every-top : {X : Type 0} (xs : List X) → Every (λ _. ⊤) xs
 Every-top [] = tt
 Every-top (x ∷ xs) = (tt, Every-top xs)
 
 pub counts-ascend : (blocks : List Counted) → ascend count_before blocks ≡ true → Ascends count_before blocks
 counts-ascend blocks e = Ascends-of count_before (λ _. ⊤) (λ c e f _ h k. count_before-trans c e f h k) blocks (Every-top blocks) e
-
--- as a walk along the neighbours finds it
-each-neighbour : {X : Type 0} (before : X → X → Bool) (xs : List X) → ((k n : ℕ) (d : X) → n ≡ k + 1 → n < length xs → true ≡ before (get_or xs k d) (get_or xs n d)) → ascend before xs ≡ true
-each-neighbour before [] h = refl
-each-neighbour before (x ∷ []) h = refl
-each-neighbour before (x ∷ y ∷ ys) h =
-    and_from (before x y) (ascend before (y ∷ ys)) (sym (h 0 1 x refl (omega arith)))
-    (each-neighbour before (y ∷ ys) (λ k n d e l. h (suc k) (suc n) d (omega (arith, e)) (omega (arith, l))))
-
-some-neighbour : {X : Type 0} (before : X → X → Bool) (xs : List X) (k n : ℕ) → n ≡ k + 1 → n < length xs → ((d : X) → false ≡ before (get_or xs k d) (get_or xs n d)) → ascend before xs ≡ false
-some-neighbour before [] k n e l h = absurd (omega (arith, l))
-some-neighbour before (x ∷ []) k n e l h = absurd (omega (arith, e, l))
-some-neighbour before (x ∷ y ∷ ys) k zero e l h = absurd (omega (arith, e))
-some-neighbour before (x ∷ y ∷ ys) zero (suc n) e l h =
-    let next : n ≡ zero = omega (arith, e) in
-    let first : false ≡ before x y = subst (λ j. false ≡ before x (get_or (y ∷ ys) j x)) next (h x) in
-    ap (λ s. s && ascend before (y ∷ ys)) (sym first)
-some-neighbour before (x ∷ y ∷ ys) (suc k) (suc n) e l h =
-    ap (λ s. before x y && s) (some-neighbour before (y ∷ ys) k n (omega (arith, e)) (omega (arith, l)) h) ∙ and-false (before x y)
-
-pub sorted : {X : Type 0} (before : X → X → Bool) (xs : List X) (r : Bool) → IsAllAdjacentAnswer (λ x y b. b ≡ before x y) xs r → r ≡ ascend before xs
-sorted before xs true h = sym (each-neighbour before xs (λ k n d e l. subst (λ j. true ≡ before (get_or xs k d) (get_or xs j d)) (sym e) (h k d (omega (arith, e, l)))))
-sorted before xs false h = sym (some-neighbour before xs h.0 (h.0 + 1) refl h.1 h.2)
 
 -- ---- counts that ascend are found by halving
 

@@ -19,12 +19,12 @@ use Rattle.partitioned_memory.specs.Lists.{Ascends}
 use Rattle.partitioned_memory.specs.Pairs.{IsParted, first_in}
 use Rattle.partitioned_memory.specs.Held.{fact_at, fact_before, interval_of_fact}
 use Rattle.partitioned_memory.specs.KnownBytes.{is_number_at}
-use Rattle.partitioned_memory.proofs.ListLaws.{Every-weaker}
+use Rattle.partitioned_memory.proofs.ListLaws.{Every-weaker, find-same}
 use Rattle.partitioned_memory.proofs.Cuts.{Every-unmap}
 use Rattle.partitioned_memory.proofs.Bytes.{off-no_byte}
 use Rattle.partitioned_memory.proofs.Orders.{area_total, int_le-from, int_le-true, int_lt-from, int_lt-true, same_area-by_cmp}
 use Rattle.partitioned_memory.proofs.FactSpots.{parted-facts}
-use Rattle.partitioned_memory.proofs.PutSpots.{Once, find-map, find-once, find-same}
+use Rattle.partitioned_memory.proofs.PutSpots.{Once, find-map, find-once}
 
 -- the byte at an offset of the image, as an interval
 abbrev own_byte : ℤ → Interval

@@ -4,7 +4,6 @@ use Rattle.std.specs.Prelude.{◌||◌, ◌&&◌, not, int_le, int_lt, ◌==◌,
 use Rattle.std.specs.List.{list_any, list_all}
 use Rattle.std.specs.Option.{option_map}
 use Rattle.std.specs.Ordering.{int_eq}
-use Rattle.std.proofs.lemmas.Grind.{common_steps}
 use Rattle.std.proofs.lemmas.Bool.{false≢true, and_parts, and_from, or_cases, or_left, or_right, false_from_ne_true, not-true}
 use Rattle.std.proofs.lemmas.Int.{ints}
 use Rattle.bit_words.specs.declared.width.Width.{Width}
@@ -29,7 +28,7 @@ use Rattle.partitioned_memory.specs.Lists.{Every}
 use Rattle.partitioned_memory.specs.Held.{PartsHeld, after_forgetting, counts_below, covers_count, covers_fact, covers_held, found, interval_of_dirty, interval_of_fact, is_at, is_below, is_dirty, is_stack_below, low_with_high, known_byte, known_half, known_number, lies_in, lies_in_one, read_of, value_read}
 use Rattle.partitioned_memory.specs.Describes.{AreBytes, IsApart, IsDescribed, IsTrueOf, IsWritten, StartsAt, counts_one, half_in, is_byte_of, number_in, stack_bytes_below}
 use Rattle.partitioned_memory.proofs.ListLaws.{Every-both, Every-weaker}
-use Rattle.partitioned_memory.proofs.Orders.{int_le-true, int_lt-false, int_lt-true, same_area-is, same_area-refl}
+use Rattle.partitioned_memory.proofs.Orders.{int_le-true, int_lt-false, int_lt-true, same_area-is, same_area-refl, int_eq-true}
 use Rattle.partitioned_memory.proofs.Kept.{same_width}
 use Rattle.partitioned_memory.proofs.Bytes.{IsWrite, byte-from, byte-is, byte-kept, first-marked, known-from, known-is}
 use Rattle.partitioned_memory.proofs.FactsKept.{AreTrue, facts-kept}
@@ -64,9 +63,6 @@ forget-keeps {D} d ranges unset p b c h high apart written x =
     }
 
 -- ---- reading
-
-pub int_eq-true : (x y : ℤ) → int_eq x y ≡ true → x ≡ y
-int_eq-true x y e = grind (arith, ints, common_steps)
 
 -- a fact is that of a spot and a width
 pub record IsOfSpot {D : Type 0} (a : Area) (low : ℤ) (w : Width) (f : Fact D) : Type 0 where

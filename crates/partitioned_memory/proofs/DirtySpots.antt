@@ -12,7 +12,7 @@ use Rattle.partitioned_memory.specs.Areas.{IsBounded, area_cmp, hull, is_left}
 use Rattle.partitioned_memory.specs.Lists.{Every, Ascends, Falls, around}
 use Rattle.partitioned_memory.specs.Pairs.{IsParted, pair_before}
 use Rattle.partitioned_memory.specs.Held.{dirty_at, dirty_before, dirty_of, dirty_with, hull_of, interval_of_dirty, pair_of_dirty}
-use Rattle.partitioned_memory.proofs.ListLaws.{Every-both, Every-filter, Every-weaker}
+use Rattle.partitioned_memory.proofs.ListLaws.{Every-both, Every-filter, Every-weaker, filter-by}
 use Rattle.partitioned_memory.proofs.Cuts.{Every-unmap, filter-all, filter-none}
 use Rattle.partitioned_memory.proofs.Orders.{Lies, Touches, area_cmp-refl, area_total, is_left-trans, left-from, left-lies, touching}
 use Rattle.partitioned_memory.proofs.FactSpots.{less-spot, low-spot, map-around, map-filter, ok-mapped}
@@ -41,10 +41,6 @@ left-apart i j f o e =
     ] refl
 
 -- ---- what a write of any bytes leaves
-
-filter-by : {X : Type 0} (p q : X → Bool) (xs : List X) → Every (λ x. p x ≡ q x) xs → filter p xs ≡ filter q xs
-filter-by p q [] h = refl
-filter-by p q (x ∷ xs) h = ap (λ b. cond b (x ∷ filter p xs) (filter p xs)) h.0 ∙ ap (λ ys. cond (q x) (x ∷ ys) ys) (filter-by p q xs h.1)
 
 -- the ranges that lie neither to the left nor to the right
 abbrev touch : Interval → Dirty → Bool

@@ -1,5 +1,5 @@
 -- Facts and dirty ranges by spots: what a list of pairs around a stretch holds.
-use Rattle.std.proofs.Common.{◌≡◌, Bool, true, false, cond, List, [], ◌∷◌, ◌++◌, map, filter, Option, Some, None, Result, Ok, Err, refl, sym, ap, ◌∙◌, subst, arith, ℤ, pos, ◌+ℤ◌, ◌≤ℤ◌, ◌<ℤ◌, inl, inr}
+use Rattle.std.proofs.Common.{◌≡◌, Bool, true, false, cond, List, [], ◌∷◌, ◌++◌, map, filter, Option, Some, None, Result, Ok, Err, refl, sym, ap, ◌∙◌, subst, arith, ℤ, ◌≤ℤ◌, ◌<ℤ◌, inl, inr}
 use Rattle.std.specs.Prelude.{IfOk, ◌||◌, ◌==◌, not, int_lt, option_to_list}
 use Rattle.std.specs.Option.{option_map}
 use Rattle.std.specs.Ordering.{int_cmp, is_lt, ordering_reverse, ordering_then}
@@ -8,9 +8,6 @@ use Rattle.std.specs.declared.cmp.Ordering.TheVariants.{Less, Equal, Greater}
 use Rattle.std.proofs.lemmas.Bool.{false≢true, not-false}
 use Rattle.std.proofs.lemmas.Int.{ints}
 use Rattle.std.proofs.lemmas.List.{map-append}
-use Rattle.bit_words.specs.declared.width.Width.{Width}
-use Rattle.bit_words.specs.declared.width.Width.TheVariants.{B8, B16, B32}
-use Rattle.bit_words.specs.Width.{bytes_of}
 use Rattle.domain_laws.specs.Laws.{Values}
 use Rattle.partitioned_memory.specs.declared.area.Area.{Area}
 use Rattle.partitioned_memory.specs.declared.area.Interval.{Interval}
@@ -25,7 +22,7 @@ use Rattle.partitioned_memory.specs.Held.{fact_at, fact_before, facts_off, facts
 use Rattle.partitioned_memory.proofs.ListLaws.{Every-kept, Every-weaker, Ascends-filter, Ascends-placed}
 use Rattle.partitioned_memory.proofs.Cuts.{Every-unmap, Falls-ascending, around-none, placed-between}
 use Rattle.partitioned_memory.proofs.Orders.{Lies, area_cmp-refl, area_total, before-lies, int_lt-from, is_before-trans}
-use Rattle.partitioned_memory.proofs.Kept.{fact_before-trans}
+use Rattle.partitioned_memory.proofs.Kept.{fact_before-trans, width-filled}
 
 -- ---- lists through a function
 
@@ -84,11 +81,6 @@ pub low-spot : (a b : Spot) → a.area ≡ b.area → a.low <ℤ b.low → spot_
 low-spot a b e l = spot_before-is a b ∙ ap (λ (z : Area). by_area (area_cmp z b.area) (int_lt a.low b.low)) e ∙ ap (λ o. by_area o (int_lt a.low b.low)) (area_cmp-refl b.area) ∙ int_lt-from a.low b.low l
 
 -- ---- intervals with a byte
-
-width-filled : (low : ℤ) (w : Width) → low <ℤ (low +ℤ pos (bytes_of w))
-width-filled low B8 = omega (arith, ints)
-width-filled low B16 = omega (arith, ints)
-width-filled low B32 = omega (arith, ints)
 
 -- two intervals do not both come first
 pub intervals-apart : (i j : Interval) → i.low <ℤ i.end → j.low ≤ℤ j.end → is_before i j ≡ true → is_before j i ≡ false

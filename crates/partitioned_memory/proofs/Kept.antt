@@ -63,7 +63,7 @@ pub record MayStand {D : Type 0} (d : Values D) (blocks : List Counted) (f : Fac
   pub counted : HasCount blocks (block_in f.area)
   pub holds : MayHold d blocks f.w f.value
 
-width-filled : (low : ℤ) (w : Width) → low <ℤ (low +ℤ pos (bytes_of w))
+pub width-filled : (low : ℤ) (w : Width) → low <ℤ (low +ℤ pos (bytes_of w))
 width-filled low B8 = omega (arith, ints)
 width-filled low B16 = omega (arith, ints)
 width-filled low B32 = omega (arith, ints)
@@ -230,11 +230,11 @@ pub HasCount-more : (r : Region) (blocks : List Counted) (o : Option Region) →
 HasCount-more r blocks None h = tt
 HasCount-more r blocks (Some s) h = counted_more-keeps r s blocks h
 
-count_before-less : (c e : Counted) → count_before c e ≡ true → area_cmp (In c.region) (In e.region) ≡ Less
+pub count_before-less : (c e : Counted) → count_before c e ≡ true → area_cmp (In c.region) (In e.region) ≡ Less
 count_before-less c e h =
     elim (by_area-true (area_cmp (In c.region) (In e.region)) false h) [ inl l ↦ l | inr b ↦ absurd (false≢true b.1) ]
 
-count_before-trans : (c e f : Counted) → count_before c e ≡ true → count_before e f ≡ true → count_before c f ≡ true
+pub count_before-trans : (c e f : Counted) → count_before c e ≡ true → count_before e f ≡ true → count_before c f ≡ true
 count_before-trans c e f h k =
     by_area-less (area_cmp (In c.region) (In f.region)) false (area_total.trans (In c.region) (In e.region) (In f.region) (count_before-less c e h) (count_before-less e f k))
 

@@ -1,6 +1,6 @@
 -- Laws of lists in an order.
-use Rattle.std.proofs.Common.{◌≡◌, ℕ, ◌+◌, Bool, true, false, cond, List, [], ◌∷◌, length, map, filter, refl, sym, ap, ◌∙◌}
-use Rattle.std.specs.Prelude.{◌||◌}
+use Rattle.std.proofs.Common.{◌≡◌, ℕ, ◌+◌, Bool, true, false, cond, List, [], ◌∷◌, length, map, filter, Some, refl, sym, ap, ◌∙◌}
+use Rattle.std.specs.Prelude.{◌||◌, find}
 use Rattle.std.proofs.Math.Numerals.{one-add}
 use Rattle.std.specs.List.{take_while, insert, prefix_len, list_any}
 use Rattle.std.proofs.lemmas.Bool.{false≢true}
@@ -53,6 +53,16 @@ Every-none t (x ∷ xs) e =
       | true ↦ λ p q. absurd (false≢true (sym q))
       | false ↦ λ p q. (p, Every-none t xs q)
     ] refl e
+
+-- ---- tests that agree
+
+pub filter-by : {X : Type 0} (p q : X → Bool) (xs : List X) → Every (λ x. p x ≡ q x) xs → filter p xs ≡ filter q xs
+filter-by p q [] h = refl
+filter-by p q (x ∷ xs) h = ap (λ b. cond b (x ∷ filter p xs) (filter p xs)) h.0 ∙ ap (λ ys. cond (q x) (x ∷ ys) ys) (filter-by p q xs h.1)
+
+pub find-same : {X : Type 0} (p q : X → Bool) → ((x : X) → p x ≡ q x) → (xs : List X) → find p xs ≡ find q xs
+find-same p q h [] = refl
+find-same p q h (x ∷ xs) = ap (λ b. cond b (Some x) (find p xs)) (h x) ∙ ap (λ r. cond (q x) (Some x) r) (find-same p q h xs)
 
 -- ---- lists in an order
 

@@ -1,12 +1,12 @@
 -- Laws of the order of areas, and of intervals.
 use Rattle.std.proofs.Common.{◌≡◌, Bool, true, false, refl, sym, ap, ◌∙◌, subst, arith, ℤ, ◌≤ℤ◌, ◌<ℤ◌, inl, inr, w64, to_z, of_z, FitsSigned}
-use Rattle.std.specs.Prelude.{◌⊎◌, int_le, int_lt}
+use Rattle.std.specs.Prelude.{◌⊎◌, ◌||◌, int_le, int_lt, not}
 use Rattle.std.proofs.lemmas.Int.{ints, int_min_is, to_z-of_z}
 use Rattle.std.proofs.lemmas.Grind.{common_steps}
 use Rattle.std.specs.declared.cmp.Ordering.{Ordering}
 use Rattle.std.specs.declared.cmp.Ordering.TheVariants.{Less, Equal, Greater}
 use Rattle.std.specs.Cmp.{IsTotalOrder}
-use Rattle.std.specs.Ordering.{is_eq, ordering_reverse}
+use Rattle.std.specs.Ordering.{int_eq, is_eq, is_lt, ordering_reverse}
 use Rattle.std.proofs.lemmas.Cmp.{tied_itself}
 use Rattle.address_regions.proofs.RegionLaws.{same_region-is, same_region-refl}
 use Rattle.address_regions.specs.Same.{same_region}
@@ -15,6 +15,23 @@ use Rattle.partitioned_memory.specs.declared.area.Area.TheVariants.{Image, In}
 use Rattle.partitioned_memory.specs.declared.area.Interval.{Interval}
 use Rattle.partitioned_memory.specs.contracts.area.AreaOrd.TheImpl as order
 use Rattle.partitioned_memory.specs.Areas.{IsInside, interval_to, area_cmp, same_area, by_area, is_before, is_left, hull}
+
+-- ---- answers of an order
+
+pub less-is : (o : Ordering) → is_lt o ≡ true → o ≡ Less
+less-is Less e = refl
+less-is Equal e = absurd (cc)
+less-is Greater e = absurd (cc)
+
+pub apart-by : (o : Ordering) → is_lt o ≡ true → is_lt (ordering_reverse o) ≡ false
+apart-by Less e = refl
+apart-by Equal e = absurd (cc)
+apart-by Greater e = absurd (cc)
+
+pub other-by : (o : Ordering) → (is_lt o || is_lt (ordering_reverse o)) ≡ not (is_eq o)
+other-by Less = refl
+other-by Equal = refl
+other-by Greater = refl
 
 -- ---- areas
 
@@ -72,6 +89,9 @@ int_lt-true x y e = grind (arith, ints, common_steps)
 
 pub int_lt-false : (x y : ℤ) → int_lt x y ≡ false → y ≤ℤ x
 int_lt-false x y e = grind (arith, ints, common_steps)
+
+pub int_eq-true : (x y : ℤ) → int_eq x y ≡ true → x ≡ y
+int_eq-true x y e = grind (arith, ints, common_steps)
 
 pub int_le-from : (x y : ℤ) → x ≤ℤ y → int_le x y ≡ true
 int_le-from x y h = grind (arith, ints, common_steps)

@@ -1,13 +1,12 @@
 -- Laws of the order of spots, and of lists of pairs in it.
-use Rattle.std.proofs.Common.{◌≡◌, ℤ, ◌<ℤ◌, Bool, true, false, cond, List, [], ◌∷◌, ◌++◌, filter, Some, None, refl, sym, ap, ◌∙◌, subst}
-use Rattle.std.specs.Prelude.{not, ◌||◌, ◌&&◌, find}
+use Rattle.std.proofs.Common.{◌≡◌, ℤ, true, false, List, ◌++◌, filter, Some, None, refl, sym, ap, ◌∙◌, subst}
+use Rattle.std.specs.Prelude.{not, ◌||◌, ◌&&◌}
 use Rattle.std.specs.Option.{option_map}
 use Rattle.std.specs.Cmp.{IsTotalOrder}
-use Rattle.std.specs.Ordering.{MatchOrdering, int_cmp, int_eq, is_eq, is_lt, ordering_reverse}
+use Rattle.std.specs.Ordering.{int_eq, is_eq, is_lt, ordering_reverse}
 use Rattle.std.specs.declared.cmp.Ordering.{Ordering}
 use Rattle.std.specs.declared.cmp.Ordering.TheVariants.{Less, Equal, Greater}
 use Rattle.std.proofs.lemmas.Bool.{and_parts, false≢true, not-false}
-use Rattle.std.proofs.lemmas.Cmp.{int_ranked}
 use Rattle.std.proofs.lemmas.List.Elements.{filter_agree}
 use Rattle.partitioned_memory.specs.declared.area.Area.{Area}
 use Rattle.partitioned_memory.specs.declared.fact.Spot.{Spot}
@@ -15,8 +14,8 @@ use Rattle.partitioned_memory.specs.Areas.{same_area}
 use Rattle.partitioned_memory.specs.contracts.fact.SpotOrd.TheImpl as order
 use Rattle.partitioned_memory.specs.Lists.{Ascends, around, placed}
 use Rattle.partitioned_memory.specs.Pairs.{IsParted, first_in, pair_before, pairs_with, pairs_without, same_spot, spot_before, spot_cmp, value_at}
-use Rattle.partitioned_memory.proofs.ListLaws.{Every-weaker, Every-kept, Ascends-filter, Ascends-placed}
-use Rattle.partitioned_memory.proofs.Orders.{same_area-is}
+use Rattle.partitioned_memory.proofs.ListLaws.{Every-weaker, Every-kept, Ascends-filter, Ascends-placed, find-same}
+use Rattle.partitioned_memory.proofs.Orders.{same_area-is, less-is, apart-by, other-by, int_eq-true}
 use Rattle.partitioned_memory.proofs.Cuts.{Falls-ascending, around-none, placed-between}
 
 -- ---- spots
@@ -30,14 +29,6 @@ same_spot-by_cmp : (a b : Spot) → same_spot a b ≡ is_eq (spot_cmp a b)
 unfolding spot_cmp same_spot
 same_spot-by_cmp a b = order.Laws.matches_eq-law a b
 
-int-same : (x y : ℤ) → int_eq x y ≡ true → x ≡ y
-int-same x y e =
-    elim (int_cmp x y) as (λ o. is_eq o ≡ true → MatchOrdering o (x <ℤ y) (x ≡ y) (y <ℤ x) → x ≡ y) [
-      | Less ↦ λ h m. absurd (cc)
-      | Equal ↦ λ h m. m
-      | Greater ↦ λ h m. absurd (cc)
-    ] e (int_ranked x y (int_cmp x y) refl)
-
 pub same_spot-parts : (a b : Spot) → same_spot a b ≡ (same_area a.area b.area && int_eq a.low b.low)
 unfolding same_spot same_area
 same_spot-parts a b = refl
@@ -46,12 +37,7 @@ pub same_spot-is : (a b : Spot) → same_spot a b ≡ true → a ≡ b
 same_spot-is a b e =
     let parts = and_parts (same_area a.area b.area) (int_eq a.low b.low) (sym (same_spot-parts a b) ∙ e) in
     ap (λ (z : Area). let s : Spot = record { area = z; low = a.low } in s) (same_area-is a.area b.area parts.0)
-    ∙ ap (λ (z : ℤ). let s : Spot = record { area = b.area; low = z } in s) (int-same a.low b.low parts.1)
-
-less-is : (o : Ordering) → is_lt o ≡ true → o ≡ Less
-less-is Less e = refl
-less-is Equal e = absurd (cc)
-less-is Greater e = absurd (cc)
+    ∙ ap (λ (z : ℤ). let s : Spot = record { area = b.area; low = z } in s) (int_eq-true a.low b.low parts.1)
 
 pub spot_before-trans : (a b c : Spot) → spot_before a b ≡ true → spot_before b c ≡ true → spot_before a c ≡ true
 spot_before-trans a b c e h = ap is_lt (spot_total.trans a b c (less-is (spot_cmp a b) e) (less-is (spot_cmp b c) h))
@@ -59,19 +45,9 @@ spot_before-trans a b c e h = ap is_lt (spot_total.trans a b c (less-is (spot_cm
 pub pair_before-trans : {V : Type 0} (p q r : Spot × V) → pair_before p q ≡ true → pair_before q r ≡ true → pair_before p r ≡ true
 pair_before-trans p q r = spot_before-trans p.0 q.0 r.0
 
-apart-by : (o : Ordering) → is_lt o ≡ true → is_lt (ordering_reverse o) ≡ false
-apart-by Less e = refl
-apart-by Equal e = absurd (cc)
-apart-by Greater e = absurd (cc)
-
 -- no spot comes both before and after another
 pub spots-apart : (a b : Spot) → spot_before a b ≡ true → spot_before b a ≡ false
 spots-apart a b e = ap is_lt (spot_total.antisymm b a) ∙ apart-by (spot_cmp a b) e
-
-other-by : (o : Ordering) → (is_lt o || is_lt (ordering_reverse o)) ≡ not (is_eq o)
-other-by Less = refl
-other-by Equal = refl
-other-by Greater = refl
 
 same-by : (o : Ordering) → (not (is_lt o) && not (is_lt (ordering_reverse o))) ≡ is_eq o
 same-by Less = refl
@@ -107,13 +83,9 @@ parted-at {V} k pairs h = record {
   end = Falls-ascending pair_before (λ p. not (spot_before k p.0)) pairs (λ p q e f. ap not (spot_before-trans k p.0 q.0 (not-false (spot_before k p.0) f) e)) h;
 }
 
-find-agree : {X : Type 0} (p q : X → Bool) → ((x : X) → p x ≡ q x) → (xs : List X) → find p xs ≡ find q xs
-find-agree p q h [] = refl
-find-agree p q h (x ∷ xs) = ap (λ b. cond b (Some x) (find p xs)) (h x) ∙ ap (λ r. cond (q x) (Some x) r) (find-agree p q h xs)
-
 -- what `get` finds
 pub value-found : {V : Type 0} (k : Spot) (pairs : List (Spot × V)) → option_map (λ p. p.1) (first_in (λ p. spot_before p.0 k) (λ p. spot_before k p.0) pairs) ≡ value_at k pairs
-value-found k pairs = ap (option_map (λ p. p.1)) (find-agree (λ p. not (spot_before p.0 k) && not (spot_before k p.0)) (λ p. same_spot p.0 k) (λ p. one-spot p.0 k) pairs)
+value-found k pairs = ap (option_map (λ p. p.1)) (find-same (λ p. not (spot_before p.0 k) && not (spot_before k p.0)) (λ p. same_spot p.0 k) (λ p. one-spot p.0 k) pairs)
 
 around-without : {V : Type 0} (k : Spot) (pairs : List (Spot × V)) → Ascends pair_before pairs → filter (λ p. spot_before p.0 k) pairs ++ filter (λ p. spot_before k p.0) pairs ≡ pairs_without k pairs
 around-without k pairs h =

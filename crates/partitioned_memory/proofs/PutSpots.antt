@@ -17,7 +17,7 @@ use Rattle.partitioned_memory.specs.Leaves.{unless}
 use Rattle.partitioned_memory.specs.Lists.{Every, Ascends, around}
 use Rattle.partitioned_memory.specs.Pairs.{pair_before, same_spot, spot_before, value_at}
 use Rattle.partitioned_memory.specs.Held.{covers_fact, fact_at, fact_given, facts_put, found, is_at, is_below, pair_of_fact, value_below, value_of_width}
-use Rattle.partitioned_memory.proofs.ListLaws.{Every-weaker}
+use Rattle.partitioned_memory.proofs.ListLaws.{Every-weaker, filter-by, find-same}
 use Rattle.partitioned_memory.proofs.PairLaws.{inserted-ascends, other-spot, removed, removed-ascends, same_spot-is, same_spot-parts, spot_before-trans, spots-apart}
 use Rattle.partitioned_memory.proofs.Cuts.{filter-all, filter-none}
 use Rattle.partitioned_memory.proofs.Kept.{same_width}
@@ -53,10 +53,6 @@ pub find-map : {X Y : Type 0} (f : X → Y) (t : Y → Bool) (xs : List X) → f
 find-map f t [] = refl
 find-map f t (x ∷ xs) =
     elim (t (f x)) as (λ b. cond b (Some (f x)) (find t (map f xs)) ≡ option_map f (cond b (Some x) (find (λ y. t (f y)) xs))) [ true ↦ refl | false ↦ find-map f t xs ]
-
-pub find-same : {X : Type 0} (p q : X → Bool) → ((x : X) → p x ≡ q x) → (xs : List X) → find p xs ≡ find q xs
-find-same p q h [] = refl
-find-same p q h (x ∷ xs) = ap (λ b. cond b (Some x) (find p xs)) (h x) ∙ ap (λ r. cond (q x) (Some x) r) (find-same p q h xs)
 
 -- ---- one spot
 
@@ -158,10 +154,6 @@ agree-once s u (x ∷ xs) h e =
           ]
       | false ↦ λ k q. (refl, agree-once s u xs h.1 q)
     ] refl e
-
-filter-by : {X : Type 0} (p q : X → Bool) (xs : List X) → Every (λ x. p x ≡ q x) xs → filter p xs ≡ filter q xs
-filter-by p q [] h = refl
-filter-by p q (x ∷ xs) h = ap (λ b. cond b (x ∷ filter p xs) (filter p xs)) h.0 ∙ ap (λ ys. cond (q x) (x ∷ ys) ys) (filter-by p q xs h.1)
 
 map-by : {X Y : Type 0} (f g : X → Y) (xs : List X) → Every (λ x. f x ≡ g x) xs → map f xs ≡ map g xs
 map-by f g [] h = refl

@@ -1,9 +1,10 @@
 -- Which facts, dirty ranges and counts of blocks parts may be built of, as a test.
-use Rattle.std.specs.Prelude.{◌^◌, Bool, true, not, ◌&&◌, ◌==◌, nat_lt, List, [], ◌∷◌, pos, int_le, int_lt, Option, None, Some}
+use Rattle.std.specs.Prelude.{◌^◌, Bool, true, not, ◌&&◌, ◌==◌, nat_lt, List, pos, int_le, int_lt, Option, None, Some}
 use Rattle.std.specs.List.{list_all}
 use Rattle.std.specs.Option.{option_map_or}
 use Rattle.bit_words.specs.declared.width.Width.{Width}
 use Rattle.bit_words.specs.Width.{bits_of}
+use Rattle.memory_map.specs.Ascending.{ascend}
 use Rattle.address_regions.specs.declared.region.Region.{Region}
 use Rattle.address_regions.specs.Extents.{has_one_base}
 use Rattle.domain_laws.specs.Laws.{Values}
@@ -14,12 +15,6 @@ use Rattle.partitioned_memory.specs.declared.fact.Dirty.{Dirty}
 use Rattle.partitioned_memory.specs.declared.fact.Counted.{Counted}
 use Rattle.partitioned_memory.specs.Areas.{block_in, bounds_of, is_marked}
 use Rattle.partitioned_memory.specs.Held.{PartsHeld, count_before, dirty_before, fact_before, interval_of_dirty, interval_of_fact, is_counted}
-
--- each element comes before the next one
-abbrev pub ascend : {X : Type 0} → (X → X → Bool) → List X → Bool
-ascend before [] = true
-ascend before (x ∷ []) = true
-ascend before (x ∷ y ∷ ys) = before x y && ascend before (y ∷ ys)
 
 -- all bytes of an interval are bytes of its area, which has none at or above 2 ^ 32
 abbrev pub lies_inside : Interval → Bool

@@ -3,7 +3,8 @@ ghost use Rattle.std.specs.List.{list_all};
 ghost use Rattle.domain_laws.specs.Made.{values_of};
 ghost use Rattle.domain_laws.specs.Reached.{named};
 ghost use Rattle.partitioned_memory.specs.Areas.{block_in};
-ghost use Rattle.partitioned_memory.specs.Building.{are_sound_dirty, are_sound_facts, are_well, ascend, fits_width, has_count, is_block, is_counted_dirty, is_counted_fact, is_counted_value, is_sound_dirty, is_sound_fact, lies_inside, may_hold};
+ghost use Rattle.memory_map.specs.Ascending.{ascend};
+ghost use Rattle.partitioned_memory.specs.Building.{are_sound_dirty, are_sound_facts, are_well, fits_width, has_count, is_block, is_counted_dirty, is_counted_fact, is_counted_value, is_sound_dirty, is_sound_fact, lies_inside, may_hold};
 ghost use Rattle.partitioned_memory.specs.Held.{dirty_before, fact_before};
 ghost use Rattle.partitioned_memory.specs.Well.{IsWell};
 

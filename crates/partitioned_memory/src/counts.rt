@@ -1,5 +1,6 @@
 ghost use Rattle.std.specs.Prelude.{◌≡◌, ◌≤◌, true, false, IfNone, IfSome, drop, length, slice_get, take};
-ghost use Rattle.partitioned_memory.specs.Building.{ascend, has_count};
+ghost use Rattle.memory_map.specs.Ascending.{ascend};
+ghost use Rattle.partitioned_memory.specs.Building.{has_count};
 ghost use Rattle.partitioned_memory.specs.Held.{count_before, is_counted};
 ghost use Rattle.partitioned_memory.specs.Lists.{Every, Falls};
 

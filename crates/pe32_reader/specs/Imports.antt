@@ -7,7 +7,7 @@ use Rattle.memory_map.specs.FileBytes.{word_at}
 use Rattle.memory_map.specs.Range.{Range}
 use Rattle.memory_map.specs.Image.{EXIT_PLACE}
 use Rattle.memory_map.specs.Name.{is_name}
-use Rattle.file_pieces.specs.Found.{bytes_at, is_in_one, name_at}
+use Rattle.file_pieces.specs.Found.{bytes_at, is_in_one, name_from}
 use Rattle.file_pieces.specs.Names.{index_of, with_name}
 use Rattle.pe_headers.specs.Headers.{address_from}
 use Rattle.pe_headers.specs.declared.fault.PeFault.{PeFault}
@@ -84,7 +84,7 @@ ordinal_name library number =
 abbrev pub import_name : List Range → ℕ → List ℕ → ℕ → Option (List ℕ)
 import_name ranges base library word =
     if nat_le 0x80000000 word then ordinal_name library (word % 65536)
-    else name_at ranges (address_from base (word + 2)) NAME_ROOM
+    else name_from ranges (address_from base (word + 2)) NAME_ROOM
 
 -- what is imported so far: the names in first-seen order, and the slots with what they are to receive
 pub record Imported : Type 0 where
@@ -126,7 +126,7 @@ library_thunks ranges base d = thunks ranges TOO_MANY_THUNKS (address_from base 
 -- a descriptor: its library's name, its FirstThunk and its thunk words
 abbrev pub descriptor_step : List Range → ℕ → Descriptor → Imported → Result Imported PeFault
 descriptor_step ranges base d seen =
-    with_some_name (name_at ranges (address_from base d.name) NAME_ROOM) (λ library.
+    with_some_name (name_from ranges (address_from base d.name) NAME_ROOM) (λ library.
     if d.first_thunk == 0 then Err Imports
     else each_entry (thunk_step ranges base library) (library_thunks ranges base d) seen)
 

@@ -1,7 +1,7 @@
 ghost use Rattle.std.specs.Prelude.{◌≡◌, ◌≢◌, ◌⊎◌, ◌≤◌, ◌<◌, ◌^◌, ◌==◌, map, nat_le, length, IsTrue, IfOk, MatchResult, Ok, Err, OnOk, if◌then◌else◌};
 ghost use Rattle.memory_map.specs.Map.{range_of};
 ghost use Rattle.memory_map.specs.Name.{is_name};
-ghost use Rattle.file_pieces.specs.Found.{is_in_one, name_at};
+ghost use Rattle.file_pieces.specs.Found.{is_in_one, name_from};
 ghost use Rattle.file_pieces.specs.Names.{index_of, with_name};
 ghost use Rattle.pe32_reader.specs.Imports.{ended, descriptor_step, descriptors, each_entry, import_place, imports_of, library_thunks, nothing, thunk_step, thunks, with_import, with_some_name, MOST_DESCRIPTORS, NAME_ROOM, TOO_MANY_THUNKS};
 ghost use Rattle.pe32_reader.specs.NamedPlaces.{AreNamed};
@@ -11,7 +11,7 @@ use crate::descriptor::{DESCRIPTOR_SIZE, Descriptor, descriptor_at, word_in};
 use crate::named_places::NamedPlaces;
 use crate::names::{NAME_BYTES, import_name};
 use crate::slots::{Slot, slot_address};
-use file_pieces::{NameFault, SeenNames, name_at};
+use file_pieces::{NameFault, SeenNames, name_from};
 use memory_map::{Name, Segments, USER_END};
 use pe_headers::{PeFault, address_from};
 use std::alloc::{AllocError, Global};
@@ -166,7 +166,7 @@ impl ImportTable {
         if named.has(at) && has_no_thunk(segments, base, descriptor) {
             return Ok(());
         }
-        match name_at(segments, u64::from(at), NAME_BYTES) {
+        match name_from(segments, u64::from(at), NAME_BYTES) {
             None => Err(PeFault::Name),
             Some(library) => {
                 named.insert(at)?;

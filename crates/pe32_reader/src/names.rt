@@ -2,7 +2,7 @@ ghost use Rattle.std.specs.Prelude.{◌≡◌, ◌≤◌, ◌%◌, map, length, 
 ghost use Rattle.memory_map.specs.Map.{range_of};
 ghost use Rattle.pe32_reader.specs.Imports.{import_name, ordinal_name};
 
-use file_pieces::name_at;
+use file_pieces::name_from;
 use itoa::Buffer;
 use memory_map::{Name, Segments};
 use pe_headers::address_from;
@@ -37,7 +37,7 @@ pub fn import_name(
         return ordinal_name(alloc, library, (word % 0x1_0000) as u16);
     }
     let at = address_from(base, word + 2);
-    match name_at(segments, u64::from(at), NAME_BYTES) {
+    match name_from(segments, u64::from(at), NAME_BYTES) {
         Some(name) => Ok(Name::new(name.to_vec(alloc)?)),
         None => Ok(None),
     }

@@ -1,58 +1,20 @@
 -- What fields state is within its bounds.
-use Rattle.std.proofs.Common.{◌≡◌, ℕ, suc, ◌+◌, ◌*◌, ◌^◌, ◌<◌, ◌≤◌, ◌==◌, Bool, true, false, List, [], ◌∷◌, length, Option, Some, None, refl, sym, subst, arith}
-use Rattle.std.proofs.Math.Nat.{mul-le-mul_left, pow-succ'}
+use Rattle.std.proofs.Common.{◌≡◌, ℕ, ◌+◌, ◌*◌, ◌^◌, ◌<◌, ◌≤◌, true, List, [], ◌∷◌, length, Option, Some, None, refl, subst, arith}
 use Rattle.std.proofs.lemmas.Bool.Decides.{nat_tests}
 use Rattle.std.proofs.lemmas.List.Elements.{All-cons, All-nil}
-use Rattle.std.specs.Prelude.{All, option_and_then, option_map, if◌then◌else◌}
+use Rattle.std.specs.Prelude.{All, option_and_then, option_map}
 use Rattle.text_fields.specs.Fields.{byte_of, word_of, bool_of}
-use Rattle.text_fields.specs.Hex.{digit_number, hex_bytes, number_after}
+use Rattle.text_fields.specs.Hex.{hex_bytes, number_after}
 use Rattle.text_fields.proofs.FieldTexts.{has_field, is_done}
-use Rattle.text_fields.proofs.HexFacts.{digit_is}
 use Rattle.memory_map.specs.declared.choice.Choice.{Choice}
 use Rattle.memory_map.specs.declared.choice.Fill.{Fill}
 use Rattle.x86_machine.specs.StartLaws.{IsFill}
 use Rattle.run_replayer.specs.declared.record.RunStep.{RunStep}
 use Rattle.run_replayer.specs.Fields.{bases_of, choice_of, fill_bytes_of, fill_of, fits_fill, regs_of, step_of}
 use Rattle.run_replayer.specs.Laws.{IsChoice, IsStep}
+use Rattle.automaton_text.proofs.HexBounds.{byte_below, number_below, word_below}
 use Rattle.run_replayer.proofs.FieldForms.{fits_by}
 use Rattle.run_replayer.proofs.LineTexts.{chosen_by}
-
--- ---- numbers
-
--- so many digits behind others make a number below this
-product_below : (n m d p q : ℕ) → d < 16 → n < (m * 16 + d + 1) * p → q ≡ 16 * p → n < (m + 1) * q
-product_below n m d p q small below is =
-    let most : d + 1 ≤ 16 = omega arith in
-    let wide : p * (d + 1) ≤ p * 16 = mul-le-mul_left p most in
-    let P : ℕ → Type 0 = λ r. n < (m + 1) * r in
-    subst P (sym is) (omega arith)
-
-digit_below : (m c : ℕ) (cs : List ℕ) (n : ℕ) (digit : Option ℕ) → digit_number c ≡ digit → option_and_then (λ d. number_after (m * 16 + d) cs) digit ≡ Some n
-    → ((k : ℕ) → number_after k cs ≡ Some n → n < (k + 1) * 16 ^ length cs) → n < (m + 1) * 16 ^ suc (length cs)
-digit_below m c cs n None e h later = cc
-digit_below m c cs n (Some d) e h later =
-    let small : d < 16 = (digit_is c d e).0 in
-    let below : n < (m * 16 + d + 1) * 16 ^ length cs = later (m * 16 + d) h in
-    product_below n m d (16 ^ length cs) (16 ^ suc (length cs)) small below (pow-succ' 16 (length cs))
-
-number_below : (m : ℕ) (cs : List ℕ) (n : ℕ) → number_after m cs ≡ Some n → n < (m + 1) * 16 ^ length cs
-number_below m [] n h = let same : m ≡ n = cc in omega (arith, same)
-number_below m (c ∷ cs) n h = digit_below m c cs n (digit_number c) refl h (λ k e. number_below k cs n e)
-
-number_within : (k : ℕ) (field : List ℕ) (n : ℕ) (t : Bool) → (length field == k) ≡ t → ◌≡◌ {A = Option ℕ} (if t then number_after 0 field else None) (Some n) → n < 16 ^ k
-number_within k field n true e h =
-    let long : length field ≡ k = grind (arith, nat_tests) in
-    let below : n < (0 + 1) * 16 ^ length field = number_below 0 field n h in
-    let P : ℕ → Type 0 = λ j. n < (0 + 1) * 16 ^ j in
-    let all : n < (0 + 1) * 16 ^ k = subst P long below in
-    omega (arith, all)
-number_within k field n false e h = cc
-
-word_small : (field : List ℕ) (n : ℕ) → word_of field ≡ Some n → n < 2 ^ 32
-word_small field n h = number_within 8 field n (length field == 8) refl h
-
-byte_small : (field : List ℕ) (n : ℕ) → byte_of field ≡ Some n → n < 2 ^ 8
-byte_small field n h = number_within 2 field n (length field == 2) refl h
 
 -- ---- bases and registers
 
@@ -63,7 +25,7 @@ bases_small fs bases e =
     let b = has_field word_of a.others _ bases a.after in
     let d = is_done _ bases b.others b.after in
     let P : (ℕ × ℕ) → Type 0 = λ p. (p.0 < 2 ^ 32) × (p.1 < 2 ^ 32) in
-    subst P d.same (word_small a.field a.value a.gives, word_small b.field b.value b.gives)
+    subst P d.same (word_below a.field a.value a.gives, word_below b.field b.value b.gives)
 
 pub record AreWords (words : List ℕ) : Type 0 where
   pub small : All (λ n. n < 2 ^ 32) words
@@ -91,10 +53,10 @@ regs_small fs regs e =
     let v = has_field word_of u.others _ regs u.after in
     let w = is_done _ regs v.others v.after in
     let words : AreWords (a.value ∷ b.value ∷ c.value ∷ d.value ∷ s.value ∷ t.value ∷ u.value ∷ v.value ∷ []) =
-    one_word a.value (word_small a.field a.value a.gives) (one_word b.value (word_small b.field b.value b.gives)
-    (one_word c.value (word_small c.field c.value c.gives) (one_word d.value (word_small d.field d.value d.gives)
-    (one_word s.value (word_small s.field s.value s.gives) (one_word t.value (word_small t.field t.value t.gives)
-    (one_word u.value (word_small u.field u.value u.gives) (one_word v.value (word_small v.field v.value v.gives) no_word))))))) in
+    one_word a.value (word_below a.field a.value a.gives) (one_word b.value (word_below b.field b.value b.gives)
+    (one_word c.value (word_below c.field c.value c.gives) (one_word d.value (word_below d.field d.value d.gives)
+    (one_word s.value (word_below s.field s.value s.gives) (one_word t.value (word_below t.field t.value t.gives)
+    (one_word u.value (word_below u.field u.value u.gives) (one_word v.value (word_below v.field v.value v.gives) no_word))))))) in
     subst AreRegisters w.same (record { eight = refl; words = words.small })
 
 -- ---- fills
@@ -130,7 +92,7 @@ fill_small fs f e =
     let d = is_done _ f b.others b.after in
     let fits = fits_by (hex_bytes b.field) b.value b.gives in
     let size = fitting b.value fits.1 in
-    subst IsFill d.same (record { at = word_small a.field a.value a.gives; some = size.some; most = size.most; bytes = bytes_small b.field b.value fits.0 })
+    subst IsFill d.same (record { at = word_below a.field a.value a.gives; some = size.some; most = size.most; bytes = bytes_small b.field b.value fits.0 })
 
 -- ---- choices and steps
 
@@ -145,11 +107,11 @@ choice_small fs c e =
     let t = has_field bool_of s.others _ c s.after in
     let w = is_done _ c t.others t.after in
     subst IsChoice w.same (record {
-      flags = byte_small f.field f.value f.gives;
-      eax = word_small a.field a.value a.gives;
-      ecx = word_small b.field b.value b.gives;
-      edx = word_small d.field d.value d.gives;
-      base = word_small s.field s.value s.gives;
+      flags = byte_below f.field f.value f.gives;
+      eax = word_below a.field a.value a.gives;
+      ecx = word_below b.field b.value b.gives;
+      edx = word_below d.field d.value d.gives;
+      base = word_below s.field s.value s.gives;
       fill = All-nil IsFill;
     })
 
@@ -159,4 +121,4 @@ step_small fs s e =
     let a = has_field word_of fs _ s e in
     let b = has_field word_of a.others _ s a.after in
     let c = chosen_by (choice_of b.others) a.value b.value s b.after in
-    subst IsStep c.2 (record { from = word_small a.field a.value a.gives; to = word_small b.field b.value b.gives; choice = choice_small b.others c.0 c.1 })
+    subst IsStep c.2 (record { from = word_below a.field a.value a.gives; to = word_below b.field b.value b.gives; choice = choice_small b.others c.0 c.1 })

@@ -1,5 +1,5 @@
 -- The lines with which start files and records begin, when they are read, are the texts of what they state.
-use Rattle.std.proofs.Common.{◌≡◌, ℕ, Bool, true, false, List, [], ◌∷◌, ◌++◌, Option, Some, None, Ok, Err, refl, sym, ◌∙◌, ap, append_assoc, append-nil}
+use Rattle.std.proofs.Common.{◌≡◌, ℕ, Bool, true, false, List, [], ◌∷◌, ◌++◌, Option, Some, None, Ok, Err, refl, sym, ◌∙◌, ap}
 use Rattle.std.specs.Prelude.{Result, codes, if◌then◌else◌}
 use Rattle.std.specs.Str.{bytes_eq}
 use Rattle.std.proofs.lemmas.Slice.Eq.{bytes_eq-Decides}
@@ -114,20 +114,3 @@ told_due-rest header due.Regs h e = cc
 told_due-rest header due.Flags h e = cc
 told_due-rest header due.Bases h e = cc
 told_due-rest header due.Rest h e = refl
-
--- four parts, each as another
-pub four : (a b c d x y z w : List ℕ) → a ≡ x → b ≡ y → c ≡ z → d ≡ w → a ++ b ++ c ++ d ≡ x ++ y ++ z ++ w
-four a b c d x y z w e f g h = cc
-
--- where nothing stands behind a part, that part or a later one gains what is put behind all
-pub first_gains : (a more : List ℕ) → (a ++ more) ++ [] ++ [] ++ [] ≡ (a ++ [] ++ [] ++ []) ++ more
-first_gains a more = simp (append_assoc, append-nil)
-
-pub second_gains : (a b more : List ℕ) → a ++ (b ++ more) ++ [] ++ [] ≡ (a ++ b ++ [] ++ []) ++ more
-second_gains a b more = simp (append_assoc, append-nil)
-
-pub third_gains : (a b c more : List ℕ) → a ++ b ++ (c ++ more) ++ [] ≡ (a ++ b ++ c ++ []) ++ more
-third_gains a b c more = simp (append_assoc, append-nil)
-
-pub fourth_gains : (a b c more : List ℕ) → a ++ b ++ c ++ more ≡ (a ++ b ++ c ++ []) ++ more
-fourth_gains a b c more = simp (append_assoc, append-nil)

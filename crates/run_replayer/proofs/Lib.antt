@@ -6,6 +6,7 @@ pub mod Leaving
 pub mod FieldForms
 pub mod LineTexts
 pub mod HeadTold
+pub mod ItemsTold
 pub mod StartTold
 pub mod RecordTold
 pub mod FieldReads

@@ -8,7 +8,7 @@ use Rattle.x86_machine.specs.StepBy.{StepBy, stepped}
 use Rattle.run_replayer.specs.declared.record.EndWord.{EndWord}
 use Rattle.run_replayer.specs.declared.record.EndWord.TheVariants as ends
 use Rattle.run_replayer.specs.declared.record.RunStep.{RunStep}
-use Rattle.run_replayer.specs.Record.{AreMade, Stops, later_choices, next_choice, step_of}
+use Rattle.run_replayer.specs.Record.{AreMade, Stops, later_choices, next_choice, recorded_step}
 
 later_choices-drop : (n : ℕ) (choices : List Choice) → later_choices (drop n choices) ≡ drop (suc n) choices
 later_choices-drop zero [] = refl
@@ -28,7 +28,7 @@ module _ (image : Image) (stubs : StatedStubs) (count : ℕ) (choices : List Cho
   }
 
   pub one_more : (made : List RunStep) (done : ℕ) (m next : MachineState) (s : RunStep) → AreMaking made done m → done < count
-      → StepBy image stubs (next_choice (drop done choices)) m (stepped next) → s ≡ step_of m (next_choice (drop done choices)) next
+      → StepBy image stubs (next_choice (drop done choices)) m (stepped next) → s ≡ recorded_step m (next_choice (drop done choices)) next
       → AreMaking (made ++ s ∷ []) (done + 1) next
   unfolding AreMade
   one_more made done m next s making below comes is = record {

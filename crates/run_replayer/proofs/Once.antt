@@ -12,7 +12,7 @@ use Rattle.x86_machine.specs.StepBy.{AtInstr, AtName, StepBy, StepEnd, bad_choic
 use Rattle.run_replayer.specs.declared.record.EndWord.{EndWord}
 use Rattle.run_replayer.specs.declared.record.RunStep.{RunStep}
 use Rattle.run_replayer.specs.declared.verdict.Verdict.{Verdict}
-use Rattle.run_replayer.specs.Record.{AreMade, Stops, later_choices, next_choice, step_of, word_of}
+use Rattle.run_replayer.specs.Record.{AreMade, Stops, later_choices, next_choice, recorded_step, outcome_word}
 use Rattle.run_replayer.specs.Verdict.{ByOutcome, Decides, IsTried, Whether}
 
 -- ---- steps
@@ -45,12 +45,12 @@ module _ (image : Image) (stubs : StatedStubs) where
 
   not_both : (choice : Choice) (m next : MachineState) (end : EndWord) → StepBy image stubs choice m (stepped next) → Stops image stubs choice m end → ⊥
   not_both choice m next end h s =
-      let e : word_of s.outcome ≡ word_of (stepped next) = ap word_of (step_once choice m s.outcome (stepped next) s.comes h) in
+      let e : outcome_word s.outcome ≡ outcome_word (stepped next) = ap outcome_word (step_once choice m s.outcome (stepped next) s.comes h) in
       let no : ◌≡◌ {A = Option EndWord} (Some end) None = sym s.word ∙ e in cc
 
   stops_once : (choice : Choice) (m : MachineState) (a b : EndWord) → Stops image stubs choice m a → Stops image stubs choice m b → a ≡ b
   stops_once choice m a b s t =
-      let e : Some a ≡ Some b = sym s.word ∙ ap word_of (step_once choice m s.outcome t.outcome s.comes t.comes) ∙ t.word in cc
+      let e : Some a ≡ Some b = sym s.word ∙ ap outcome_word (step_once choice m s.outcome t.outcome s.comes t.comes) ∙ t.word in cc
 
   pub made_once : (count : ℕ) (choices : List Choice) (m : MachineState) (steps others : List RunStep) (a b : EndWord)
       → AreMade image stubs count choices m steps a → AreMade image stubs count choices m others b → (steps ≡ others) × (a ≡ b)
@@ -63,7 +63,7 @@ module _ (image : Image) (stubs : StatedStubs) where
       let same : g.next ≡ h.next = stepped_once (next_choice choices) m g.next h.next g.comes h.comes in
       let P : MachineState → Type 0 = λ next. AreMade image stubs count (later_choices choices) next g.rest a in
       let rest : (g.rest ≡ h.rest) × (a ≡ b) = made_once count (later_choices choices) h.next g.rest h.rest a b (subst P same g.goes) h.goes in
-      (g.first ∙ ap (λ next. step_of m (next_choice choices) next ∷ g.rest) same ∙ ap (λ t. step_of m (next_choice choices) h.next ∷ t) rest.0 ∙ sym h.first, rest.1)
+      (g.first ∙ ap (λ next. recorded_step m (next_choice choices) next ∷ g.rest) same ∙ ap (λ t. recorded_step m (next_choice choices) h.next ∷ t) rest.0 ∙ sym h.first, rest.1)
 
   -- ---- verdicts
 

@@ -19,8 +19,8 @@ use Rattle.run_replayer.specs.Laws.{IsInBounds, IsStep}
 use Rattle.run_replayer.specs.Texts.{record_header}
 use Rattle.run_replayer.proofs.Bounds.{AreWords, bases_small, fill_small, no_word, one_word, regs_small, step_small}
 use Rattle.run_replayer.proofs.HeadTold.{behind_told, field_made}
-use Rattle.run_replayer.proofs.RecordTold.{Keeps, nothing_kept, tells, told}
-use Rattle.run_replayer.proofs.StartTold.{within_made}
+use Rattle.run_replayer.proofs.RecordTold.{IsRecordInTurn, nothing_in_turn, tells, told}
+use Rattle.run_replayer.proofs.ItemsTold.{within_made}
 use Rattle.text_fields.proofs.Found.{mapped}
 
 record HeadFits (h : Head) : Type 0 where
@@ -126,7 +126,7 @@ line_fits r t line fits h = by_due r t line (is_rest r.head.due) fits h
 -- ---- all lines
 
 record Both (r : RecordReader) : Type 0 where
-  keeps : Keeps r
+  keeps : IsRecordInTurn r
   fits : Fits r
 
 all_told : Tells record_grammar Both told
@@ -149,17 +149,18 @@ nothing_fits = record {
 
 pub record_in_bounds : (text : List ℕ) (r : RunRecord) → StatesRecord text r → IsInBounds r
 record_in_bounds text r h =
-    let last : Both h.read = (kept_lines record_grammar Both told all_told (lines text) 1 no_record h.read (record { keeps = nothing_kept; fits = nothing_fits }) h.reads).0 in
+    let last : Both h.read = (kept_lines record_grammar Both told all_told (lines text) 1 no_record h.read (record { keeps = nothing_in_turn; fits = nothing_fits }) h.reads).0 in
     let head = last.fits.head in
     let is = h.is in
+    let start = is.start in
     let Words : List ℕ → Type 0 = λ regs. All (λ n. n < 2 ^ 32) regs in
     record {
       start = record {
-        registers = ap length is.regs ∙ head.registers;
-        words = subst Words (sym is.regs) head.words;
-        fs = omega (arith, is.fs, head.fs);
-        gs = omega (arith, is.gs, head.gs);
-        fill = subst (All IsFill) (sym is.fill) head.fill;
+        registers = ap length start.regs ∙ head.registers;
+        words = subst Words (sym start.regs) head.words;
+        fs = omega (arith, start.fs, head.fs);
+        gs = omega (arith, start.gs, head.gs);
+        fill = subst (All IsFill) (sym start.fill) head.fill;
       };
       steps = subst (All IsStep) (sym is.steps) last.fits.steps;
     }

@@ -25,6 +25,7 @@ use Rattle.text_fields.proofs.Splitting.{ArePlain, IsPlain, Reaches, fields_spac
 use Rattle.text_fields.proofs.Found.{word_same}
 use Rattle.text_fields.specs.Fields.{bool_text}
 use Rattle.text_fields.proofs.PlainTexts.{plain_is, word_plain, byte_plain, bytes_plain}
+use Rattle.std.proofs.lemmas.List.{nil_from_length}
 
 -- where a record stands while it is read
 abbrev at : Due → List ℕ → ℕ → ℕ → ℕ → List Fill → List RunStep → Option EndWord → RecordReader
@@ -223,10 +224,6 @@ end_reached r end rest on =
 end_joined : (text word end gap : List ℕ) → text ++ ((word ++ end) ++ gap) ≡ ((text ++ word) ++ end) ++ gap
 end_joined text word end gap = simp append_assoc
 
-no_items : {X : Type 0} (xs : List X) → length xs ≡ 0 → xs ≡ []
-no_items [] e = refl
-no_items (x ∷ xs) e = absurd (omega (arith, e))
-
 pub record_reads : (r : RunRecord) → IsInBounds r → StatesRecord (record_text r) r
 unfolding record_text start_lines
 record_reads r bounds =
@@ -255,5 +252,5 @@ record_reads r bounds =
     record {
       read = s7;
       reads = reaches_end record_grammar s0 s7 (record_text r) (subst P (end_joined (((record_header ++ newline) ++ start_lines r.start) ++ flat_map step_lines r.steps) (codes "end ") (end_word r.end) newline) all) refl;
-      is = record { regs = refl; flags = refl; fs = refl; gs = refl; fill = refl; choices = no_items r.start.choices r.no_choices; steps = refl; end = refl };
+      is = record { start = record { regs = refl; flags = refl; fs = refl; gs = refl; fill = refl; choices = nil_from_length r.start.choices r.no_choices }; steps = refl; end = refl };
     }

@@ -14,13 +14,14 @@ use Rattle.run_replayer.specs.declared.head.Head.{Head}
 use Rattle.run_replayer.specs.declared.record_reader.RecordReader.{RecordReader}
 use Rattle.run_replayer.specs.Fields.{ending_of, fill_of, step_of}
 use Rattle.text_fields.specs.Lines.{WORD}
-use Rattle.run_replayer.specs.Grammar.{IsRecord, StatesRecord, head_step, is_rest, no_record, or_field, record_grammar, record_read, record_rest, record_step, with_record_fill, with_step_fill, within}
+use Rattle.run_replayer.specs.Grammar.{IsRecord, StatesRecord, head_step, is_rest, no_record, or_field, record_grammar, record_read, record_rest, record_step, with_record_fill, with_step_fill, within, with_head_fill, with_last}
 use Rattle.run_replayer.specs.Texts.{bases_line, choice_fields, end_word, fill_line, flags_line, record_header, record_text, regs_line, start_lines, step_lines, word_field}
-use Rattle.run_replayer.proofs.HeadTold.{due_told, field_made, first_gains, four, fourth_gains, second_gains, third_gains, told_due, told_due-fill, told_due-rest}
+use Rattle.run_replayer.proofs.HeadTold.{due_told, field_made, told_due, told_due-rest}
+use Rattle.run_replayer.proofs.ItemsTold.{IsInTurn, end_gains, fills_gain, flat_map-with_last, head_gains, head_in_turn, items_gain, rest_in_turn, stated, within_made}
 use Rattle.run_replayer.proofs.LineTexts.{ending_told, fill_told, step_told}
 use Rattle.text_fields.proofs.Splitting.{Tells, fields_back, kept_lines, spaced, told_text}
-use Rattle.run_replayer.proofs.StartTold.{flat_map-last, flat_map-with_last, within_made}
 use Rattle.text_fields.proofs.Found.{mapped}
+use Rattle.automaton_text.proofs.Told.{flat_map-last}
 
 step_gains : (fill : Fill) (s : RunStep) → step_lines (with_step_fill fill s) ≡ step_lines s ++ fill_line fill
 unfolding step_lines choice_fields
@@ -34,75 +35,44 @@ end_told (Some end) = codes "end " ++ end_word end ++ newline
 
 -- what was stated so far
 pub told : RecordReader → List ℕ
-told s = told_due record_header s.head.due s.head ++ flat_map fill_line s.head.fill ++ flat_map step_lines s.steps ++ end_told s.end
+told s = stated record_header step_lines s.head s.steps (end_told s.end)
 
--- nothing is stated before its turn
-pub record Keeps (s : RecordReader) : Type 0 where
-  pub fresh : is_rest s.head.due ≡ false → (s.head.fill ≡ []) × (s.steps ≡ [])
-  pub late : is_some s.end ≡ true → is_rest s.head.due ≡ true
+abbrev pub IsRecordInTurn : RecordReader → Type 0
+IsRecordInTurn s = IsInTurn s.head s.steps (is_some s.end)
 
 record Adds (s t : RecordReader) (line : List ℕ) : Type 0 where
   text : told t ≡ told s ++ (line ++ newline)
-  kept : Keeps t
-
-rest_kept : (s t : RecordReader) → is_rest s.head.due ≡ true → t.head.due ≡ s.head.due → Keeps t
-rest_kept s t rest same =
-    let r : is_rest t.head.due ≡ true = ap is_rest same ∙ rest in
-    record { fresh = λ e. (let no : true ≡ false = sym r ∙ e in let never : ⊥ = cc in absurd never); late = λ _. r }
+  kept : IsRecordInTurn t
 
 filled : (f : Fill) (items : List RunStep) (s : RecordReader) (line : List ℕ) → s.steps ≡ items → s.end ≡ None → is_rest s.head.due ≡ true → line ++ newline ≡ fill_line f → Adds s (with_record_fill f items s) line
 unfolding told end_told
-filled f [] s line is on rest text =
-    let head : List ℕ = told_due record_header s.head.due s.head in
-    let fills : List ℕ = flat_map fill_line s.head.fill in
-    record {
-      text =
-          four _ _ _ _ head (fills ++ (line ++ newline)) [] []
-          (told_due-fill record_header s.head.due s.head (s.head.fill ++ f ∷ [])) (flat_map-last fill_line s.head.fill f ∙ ap (λ l. fills ++ l) (sym text)) (ap (flat_map step_lines) is) (ap end_told on)
-          ∙ second_gains head fills (line ++ newline)
-          ∙ ap (λ l. l ++ (line ++ newline)) (sym (four head fills (flat_map step_lines s.steps) (end_told s.end) head fills [] [] refl refl (ap (flat_map step_lines) is) (ap end_told on)));
-      kept = rest_kept s (with_record_fill f [] s) rest refl;
-    }
-filled f (c ∷ cs) s line is on rest text =
-    let head : List ℕ = told_due record_header s.head.due s.head in
-    let fills : List ℕ = flat_map fill_line s.head.fill in
-    let items : List ℕ = flat_map step_lines (c ∷ cs) in
-    record {
-      text =
-          four head fills _ _ head fills (items ++ (line ++ newline)) []
-          refl refl (flat_map-with_last step_lines (with_step_fill f) (fill_line f) (λ x. step_gains f x) c cs ∙ ap (λ l. items ++ l) (sym text)) (ap end_told on)
-          ∙ third_gains head fills items (line ++ newline)
-          ∙ ap (λ l. l ++ (line ++ newline)) (sym (four head fills (flat_map step_lines s.steps) (end_told s.end) head fills items [] refl refl (ap (flat_map step_lines) is) (ap end_told on)));
-      kept = rest_kept s (with_record_fill f (c ∷ cs) s) rest refl;
-    }
+filled f [] s line is on rest text = record {
+  text = fills_gain record_header step_lines s.head line f s.steps (end_told s.end) is (ap end_told on) text;
+  kept = rest_in_turn (with_head_fill f s.head) s.steps (is_some s.end) rest;
+}
+filled f (x ∷ xs) s line is on rest text = record {
+  text =
+      items_gain record_header step_lines s.head line s.steps (with_last (with_step_fill f) (x ∷ xs)) (end_told s.end) (ap end_told on)
+      (flat_map-with_last step_lines (with_step_fill f) (fill_line f) (λ y. step_gains f y) x xs
+      ∙ ap (λ l. flat_map step_lines (x ∷ xs) ++ l) (sym text) ∙ ap (λ ss. flat_map step_lines ss ++ (line ++ newline)) (sym is));
+  kept = rest_in_turn s.head (with_last (with_step_fill f) (x ∷ xs)) (is_some s.end) rest;
+}
 
 stepped : (c : RunStep) (s : RecordReader) (line : List ℕ) → s.end ≡ None → is_rest s.head.due ≡ true → line ++ newline ≡ step_lines c → Adds s (record s { steps = s.steps ++ c ∷ [] }) line
 unfolding told end_told
-stepped c s line on rest text =
-    let head : List ℕ = told_due record_header s.head.due s.head in
-    let fills : List ℕ = flat_map fill_line s.head.fill in
-    let items : List ℕ = flat_map step_lines s.steps in
-    record {
-      text =
-          four head fills _ _ head fills (items ++ (line ++ newline)) []
-          refl refl (flat_map-last step_lines s.steps c ∙ ap (λ l. items ++ l) (sym text)) (ap end_told on)
-          ∙ third_gains head fills items (line ++ newline)
-          ∙ ap (λ l. l ++ (line ++ newline)) (sym (four head fills items (end_told s.end) head fills items [] refl refl refl (ap end_told on)));
-      kept = rest_kept s (record s { steps = s.steps ++ c ∷ [] }) rest refl;
-    }
+stepped c s line on rest text = record {
+  text =
+      items_gain record_header step_lines s.head line s.steps (s.steps ++ c ∷ []) (end_told s.end) (ap end_told on)
+      (flat_map-last step_lines s.steps c ∙ ap (λ l. flat_map step_lines s.steps ++ l) (sym text));
+  kept = rest_in_turn s.head (s.steps ++ c ∷ []) (is_some s.end) rest;
+}
 
 closed : (end : EndWord) (s : RecordReader) (line : List ℕ) → s.end ≡ None → is_rest s.head.due ≡ true → line ++ newline ≡ codes "end " ++ end_word end ++ newline → Adds s (record s { end = Some end }) line
 unfolding told end_told
-closed end s line on rest text =
-    let head : List ℕ = told_due record_header s.head.due s.head in
-    let fills : List ℕ = flat_map fill_line s.head.fill in
-    let items : List ℕ = flat_map step_lines s.steps in
-    record {
-      text =
-          ap (λ l. head ++ fills ++ items ++ l) (sym text) ∙ fourth_gains head fills items (line ++ newline)
-          ∙ ap (λ l. l ++ (line ++ newline)) (sym (four head fills items (end_told s.end) head fills items [] refl refl refl (ap end_told on)));
-      kept = rest_kept s (record s { end = Some end }) rest refl;
-    }
+closed end s line on rest text = record {
+  text = end_gains record_header step_lines s.head line s.steps (end_told s.end) (codes "end " ++ end_word end ++ newline) (ap end_told on) text;
+  kept = rest_in_turn s.head s.steps true rest;
+}
 
 step_text : (fs : List (List ℕ)) (s : RunStep) → step_of fs ≡ Some s → (codes "step" ++ spaced fs) ++ newline ≡ step_lines s
 unfolding step_lines choice_fields
@@ -143,17 +113,12 @@ by_fields s t line (word ∷ fs) parts on rest h =
 head_adds : (s : RecordReader) (k : Head) (line : List ℕ) → s.end ≡ None → s.head.fill ≡ [] → s.steps ≡ [] → k.fill ≡ []
     → told_due record_header k.due k ≡ told_due record_header s.head.due s.head ++ (line ++ newline) → Adds s (record s { head = k }) line
 unfolding told end_told
-head_adds s k line on no_fill none fresh text =
-    let head : List ℕ = told_due record_header s.head.due s.head in
-    record {
-      text =
-          four _ _ _ _ (head ++ (line ++ newline)) [] [] [] text (ap (flat_map fill_line) fresh) (ap (flat_map step_lines) none) (ap end_told on)
-          ∙ first_gains head (line ++ newline)
-          ∙ ap (λ l. l ++ (line ++ newline)) (sym (four head (flat_map fill_line s.head.fill) (flat_map step_lines s.steps) (end_told s.end) head [] [] [] refl (ap (flat_map fill_line) no_fill) (ap (flat_map step_lines) none) (ap end_told on)));
-      kept = record { fresh = λ _. (fresh, none); late = λ e. (let no : true ≡ false = sym e ∙ ap is_some on in let never : ⊥ = cc in absurd never) };
-    }
+head_adds s k line on no_fill none fresh text = record {
+  text = head_gains record_header step_lines s.head line k s.steps (end_told s.end) no_fill fresh none (ap end_told on) text;
+  kept = head_in_turn k s.steps (is_some s.end) fresh none (ap is_some on);
+}
 
-by_due : (s t : RecordReader) (line : List ℕ) (rest : Bool) → is_rest s.head.due ≡ rest → Keeps s → s.end ≡ None
+by_due : (s t : RecordReader) (line : List ℕ) (rest : Bool) → is_rest s.head.due ≡ rest → IsRecordInTurn s → s.end ≡ None
     → (if rest then record_rest s (fields line) else within (λ (h : Head). record s { head = h }) (head_step record_header s.head line)) ≡ Ok t → Adds s t line
 unfolding head_step
 by_due s t line true is kept on h = by_fields s t line (fields line) refl on is h
@@ -169,7 +134,7 @@ not_some : (o : Option EndWord) → is_some o ≡ false → o ≡ None
 not_some None e = refl
 not_some (Some end) e = cc
 
-pub tells : Tells record_grammar Keeps told
+pub tells : Tells record_grammar IsRecordInTurn told
 unfolding record_step
 tells = record {
   keeps = λ s t line kept on is. (by_due s t line (is_rest s.head.due) refl kept (not_some s.end on) is).kept;
@@ -195,20 +160,20 @@ told_written read end rest ended =
 
 written_same : (read : RecordReader) (r : RunRecord) → IsRecord read r
     → written read.head.regs read.head.flags read.head.fs read.head.gs read.head.fill read.steps r.end ≡ written r.start.regs r.start.flags r.start.fs r.start.gs r.start.fill r.steps r.end
-written_same read r is = cc
+written_same read r is = (let start = is.start in cc)
 
 written_text : (r : RunRecord) → written r.start.regs r.start.flags r.start.fs r.start.gs r.start.fill r.steps r.end ≡ record_text r
 unfolding written record_text start_lines
 written_text r = refl
 
-pub nothing_kept : Keeps no_record
-nothing_kept = record { fresh = λ _. (refl, refl); late = λ e. cc }
+pub nothing_in_turn : IsRecordInTurn no_record
+nothing_in_turn = record { fresh = λ _. (refl, refl); late = λ e. cc }
 
 pub record_told : (text : List ℕ) (r : RunRecord) → StatesRecord text r → text ≡ record_text r
 unfolding told told_due end_told
 record_told text r h =
-    let last = kept_lines record_grammar Keeps told tells (lines text) 1 no_record h.read nothing_kept h.reads in
-    told_text record_grammar Keeps told tells no_record h.read text nothing_kept refl h.reads
+    let last = kept_lines record_grammar IsRecordInTurn told tells (lines text) 1 no_record h.read nothing_in_turn h.reads in
+    told_text record_grammar IsRecordInTurn told tells no_record h.read text nothing_in_turn refl h.reads
     ∙ told_written h.read r.end (last.0.late last.1) h.is.end ∙ written_same h.read r h.is ∙ written_text r
 
 ended_some : (o : Option EndWord) → is_some o ≡ true → o ≡ None → ⊥
@@ -218,4 +183,4 @@ ended_some (Some end) e f = (let never : ⊥ = cc in never)
 -- what was read of a whole text has its end
 pub record_ends : (text : List ℕ) (read : RecordReader) → record_read text ≡ Ok read → read.end ≡ None → ⊥
 record_ends text read h none =
-    ended_some read.end (kept_lines record_grammar Keeps told tells (lines text) 1 no_record read nothing_kept h).1 none
+    ended_some read.end (kept_lines record_grammar IsRecordInTurn told tells (lines text) 1 no_record read nothing_in_turn h).1 none

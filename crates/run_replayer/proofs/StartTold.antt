@@ -1,6 +1,6 @@
 -- A text that is read as a start file is that start file's text.
 use Rattle.std.proofs.Common.{◌≡◌, ℕ, Bool, true, false, List, [], ◌∷◌, ◌++◌, Some, Ok, Err, refl, sym, ◌∙◌, ap, subst, append_assoc, append-nil}
-use Rattle.std.specs.Prelude.{Result, codes, flat_map, option_map, if◌then◌else◌}
+use Rattle.std.specs.Prelude.{codes, flat_map, option_map, if◌then◌else◌}
 use Rattle.std.specs.Str.{bytes_eq}
 use Rattle.std.proofs.lemmas.Slice.Eq.{bytes_eq-Decides}
 use Rattle.text_fields.specs.Line.{newline}
@@ -14,27 +14,15 @@ use Rattle.run_replayer.specs.declared.start_reader.StartReader.{StartReader}
 use Rattle.text_fields.specs.Fields.{no_more}
 use Rattle.run_replayer.specs.Fields.{choice_of, fill_of}
 use Rattle.text_fields.specs.Lines.{WORD}
-use Rattle.run_replayer.specs.Grammar.{IsStart, StatesStart, head_step, is_rest, no_start, or_field, start_grammar, start_rest, start_step, with_fill, with_last, with_start_fill, within}
+use Rattle.run_replayer.specs.Grammar.{IsStart, StatesStart, head_step, is_rest, no_start, or_field, start_grammar, start_rest, start_step, with_fill, with_last, with_start_fill, within, with_head_fill}
 use Rattle.run_replayer.specs.Texts.{bases_line, choice_fields, choice_lines, fill_line, flags_line, regs_line, start_header, start_lines, start_text}
 use Rattle.text_fields.proofs.FieldTexts.{is_done}
-use Rattle.run_replayer.proofs.HeadTold.{due_told, field_made, first_gains, four, fourth_gains, second_gains, third_gains, told_due, told_due-fill, told_due-rest}
+use Rattle.run_replayer.proofs.HeadTold.{due_told, field_made, told_due, told_due-rest}
+use Rattle.run_replayer.proofs.ItemsTold.{IsInTurn, end_gains, fills_gain, flat_map-with_last, head_gains, head_in_turn, items_gain, rest_in_turn, stated, within_made}
 use Rattle.run_replayer.proofs.LineTexts.{choice_told, fill_told}
 use Rattle.text_fields.proofs.Splitting.{Tells, fields_back, kept_lines, spaced, told_text}
 use Rattle.text_fields.proofs.Found.{mapped}
-
-pub flat_map-append : {X : Type 0} (f : X → List ℕ) (xs ys : List X) → flat_map f (xs ++ ys) ≡ flat_map f xs ++ flat_map f ys
-flat_map-append f [] ys = refl
-flat_map-append f (x ∷ xs) ys = ap (λ l. f x ++ l) (flat_map-append f xs ys) ∙ sym (append_assoc (f x) (flat_map f xs) (flat_map f ys))
-
--- one more at the end
-pub flat_map-last : {X : Type 0} (f : X → List ℕ) (xs : List X) (x : X) → flat_map f (xs ++ x ∷ []) ≡ flat_map f xs ++ f x
-flat_map-last f xs x = flat_map-append f xs (x ∷ []) ∙ ap (λ l. flat_map f xs ++ l) (append-nil (f x))
-
--- the last one changed so that its text gains this
-pub flat_map-with_last : {X : Type 0} (f : X → List ℕ) (change : X → X) (more : List ℕ) → ((x : X) → f (change x) ≡ f x ++ more) → (x : X) (xs : List X)
-    → flat_map f (with_last change (x ∷ xs)) ≡ flat_map f (x ∷ xs) ++ more
-flat_map-with_last f change more gains x [] = append-nil (f (change x)) ∙ gains x ∙ ap (λ l. l ++ more) (sym (append-nil (f x)))
-flat_map-with_last f change more gains x (y ∷ xs) = ap (λ l. f x ++ l) (flat_map-with_last f change more gains y xs) ∙ sym (append_assoc (f x) (flat_map f (y ∷ xs)) more)
+use Rattle.automaton_text.proofs.Told.{flat_map-last}
 
 choice_gains : (fill : Fill) (c : Choice) → choice_lines (with_fill fill c) ≡ choice_lines c ++ fill_line fill
 unfolding choice_lines choice_fields
@@ -48,75 +36,44 @@ end_told false = []
 
 -- what was stated so far
 pub told : StartReader → List ℕ
-told s = told_due start_header s.head.due s.head ++ flat_map fill_line s.head.fill ++ flat_map choice_lines s.choices ++ end_told s.ended
+told s = stated start_header choice_lines s.head s.choices (end_told s.ended)
 
--- nothing is stated before its turn
-pub record Keeps (s : StartReader) : Type 0 where
-  pub fresh : is_rest s.head.due ≡ false → (s.head.fill ≡ []) × (s.choices ≡ [])
-  pub late : s.ended ≡ true → is_rest s.head.due ≡ true
+abbrev pub IsStartInTurn : StartReader → Type 0
+IsStartInTurn s = IsInTurn s.head s.choices s.ended
 
 record Adds (s t : StartReader) (line : List ℕ) : Type 0 where
   text : told t ≡ told s ++ (line ++ newline)
-  kept : Keeps t
-
-rest_kept : (s t : StartReader) → is_rest s.head.due ≡ true → t.head.due ≡ s.head.due → Keeps t
-rest_kept s t rest same =
-    let r : is_rest t.head.due ≡ true = ap is_rest same ∙ rest in
-    record { fresh = λ e. (let no : true ≡ false = sym r ∙ e in let never : ⊥ = cc in absurd never); late = λ _. r }
+  kept : IsStartInTurn t
 
 filled : (f : Fill) (items : List Choice) (s : StartReader) (line : List ℕ) → s.choices ≡ items → s.ended ≡ false → is_rest s.head.due ≡ true → line ++ newline ≡ fill_line f → Adds s (with_start_fill f items s) line
 unfolding told end_told
-filled f [] s line is on rest text =
-    let head : List ℕ = told_due start_header s.head.due s.head in
-    let fills : List ℕ = flat_map fill_line s.head.fill in
-    record {
-      text =
-          four _ _ _ _ head (fills ++ (line ++ newline)) [] []
-          (told_due-fill start_header s.head.due s.head (s.head.fill ++ f ∷ [])) (flat_map-last fill_line s.head.fill f ∙ ap (λ l. fills ++ l) (sym text)) (ap (flat_map choice_lines) is) (ap end_told on)
-          ∙ second_gains head fills (line ++ newline)
-          ∙ ap (λ l. l ++ (line ++ newline)) (sym (four head fills (flat_map choice_lines s.choices) (end_told s.ended) head fills [] [] refl refl (ap (flat_map choice_lines) is) (ap end_told on)));
-      kept = rest_kept s (with_start_fill f [] s) rest refl;
-    }
-filled f (c ∷ cs) s line is on rest text =
-    let head : List ℕ = told_due start_header s.head.due s.head in
-    let fills : List ℕ = flat_map fill_line s.head.fill in
-    let items : List ℕ = flat_map choice_lines (c ∷ cs) in
-    record {
-      text =
-          four head fills _ _ head fills (items ++ (line ++ newline)) []
-          refl refl (flat_map-with_last choice_lines (with_fill f) (fill_line f) (λ x. choice_gains f x) c cs ∙ ap (λ l. items ++ l) (sym text)) (ap end_told on)
-          ∙ third_gains head fills items (line ++ newline)
-          ∙ ap (λ l. l ++ (line ++ newline)) (sym (four head fills (flat_map choice_lines s.choices) (end_told s.ended) head fills items [] refl refl (ap (flat_map choice_lines) is) (ap end_told on)));
-      kept = rest_kept s (with_start_fill f (c ∷ cs) s) rest refl;
-    }
+filled f [] s line is on rest text = record {
+  text = fills_gain start_header choice_lines s.head line f s.choices (end_told s.ended) is (ap end_told on) text;
+  kept = rest_in_turn (with_head_fill f s.head) s.choices s.ended rest;
+}
+filled f (c ∷ cs) s line is on rest text = record {
+  text =
+      items_gain start_header choice_lines s.head line s.choices (with_last (with_fill f) (c ∷ cs)) (end_told s.ended) (ap end_told on)
+      (flat_map-with_last choice_lines (with_fill f) (fill_line f) (λ x. choice_gains f x) c cs
+      ∙ ap (λ l. flat_map choice_lines (c ∷ cs) ++ l) (sym text) ∙ ap (λ cs. flat_map choice_lines cs ++ (line ++ newline)) (sym is));
+  kept = rest_in_turn s.head (with_last (with_fill f) (c ∷ cs)) s.ended rest;
+}
 
 chosen : (c : Choice) (s : StartReader) (line : List ℕ) → s.ended ≡ false → is_rest s.head.due ≡ true → line ++ newline ≡ choice_lines c → Adds s (record s { choices = s.choices ++ c ∷ [] }) line
 unfolding told end_told
-chosen c s line on rest text =
-    let head : List ℕ = told_due start_header s.head.due s.head in
-    let fills : List ℕ = flat_map fill_line s.head.fill in
-    let items : List ℕ = flat_map choice_lines s.choices in
-    record {
-      text =
-          four head fills _ _ head fills (items ++ (line ++ newline)) []
-          refl refl (flat_map-last choice_lines s.choices c ∙ ap (λ l. items ++ l) (sym text)) (ap end_told on)
-          ∙ third_gains head fills items (line ++ newline)
-          ∙ ap (λ l. l ++ (line ++ newline)) (sym (four head fills items (end_told s.ended) head fills items [] refl refl refl (ap end_told on)));
-      kept = rest_kept s (record s { choices = s.choices ++ c ∷ [] }) rest refl;
-    }
+chosen c s line on rest text = record {
+  text =
+      items_gain start_header choice_lines s.head line s.choices (s.choices ++ c ∷ []) (end_told s.ended) (ap end_told on)
+      (flat_map-last choice_lines s.choices c ∙ ap (λ l. flat_map choice_lines s.choices ++ l) (sym text));
+  kept = rest_in_turn s.head (s.choices ++ c ∷ []) s.ended rest;
+}
 
 closed : (s : StartReader) (line : List ℕ) → s.ended ≡ false → is_rest s.head.due ≡ true → line ++ newline ≡ codes "end" ++ newline → Adds s (record s { ended = true }) line
 unfolding told end_told
-closed s line on rest text =
-    let head : List ℕ = told_due start_header s.head.due s.head in
-    let fills : List ℕ = flat_map fill_line s.head.fill in
-    let items : List ℕ = flat_map choice_lines s.choices in
-    record {
-      text =
-          ap (λ l. head ++ fills ++ items ++ l) (sym text) ∙ fourth_gains head fills items (line ++ newline)
-          ∙ ap (λ l. l ++ (line ++ newline)) (sym (four head fills items (end_told s.ended) head fills items [] refl refl refl (ap end_told on)));
-      kept = rest_kept s (record s { ended = true }) rest refl;
-    }
+closed s line on rest text = record {
+  text = end_gains start_header choice_lines s.head line s.choices (end_told s.ended) (codes "end" ++ newline) (ap end_told on) text;
+  kept = rest_in_turn s.head s.choices true rest;
+}
 
 choice_text : (fs : List (List ℕ)) (c : Choice) → choice_of fs ≡ Some c → (codes "choice" ++ spaced fs) ++ newline ≡ choice_lines c
 unfolding choice_lines choice_fields
@@ -149,24 +106,15 @@ by_fields s t line [] parts on rest h = cc
 by_fields s t line (word ∷ fs) parts on rest h =
     by_word s t word line fs (bytes_eq word (codes "fill")) (bytes_eq word (codes "choice")) (bytes_eq word (codes "end")) parts on rest refl refl refl h
 
-pub within_made : {A B : Type 0} (whole : A → B) (r : Result A ℕ) (b : B) → within whole r ≡ Ok b → (a : A) × (r ≡ Ok a) × (whole a ≡ b)
-within_made whole (Ok a) b h = (a, refl, cc)
-within_made whole (Err kind) b h = cc
-
 head_adds : (s : StartReader) (k : Head) (line : List ℕ) → s.ended ≡ false → s.head.fill ≡ [] → s.choices ≡ [] → k.fill ≡ []
     → told_due start_header k.due k ≡ told_due start_header s.head.due s.head ++ (line ++ newline) → Adds s (record s { head = k }) line
 unfolding told end_told
-head_adds s k line on no_fill none fresh text =
-    let head : List ℕ = told_due start_header s.head.due s.head in
-    record {
-      text =
-          four _ _ _ _ (head ++ (line ++ newline)) [] [] [] text (ap (flat_map fill_line) fresh) (ap (flat_map choice_lines) none) (ap end_told on)
-          ∙ first_gains head (line ++ newline)
-          ∙ ap (λ l. l ++ (line ++ newline)) (sym (four head (flat_map fill_line s.head.fill) (flat_map choice_lines s.choices) (end_told s.ended) head [] [] [] refl (ap (flat_map fill_line) no_fill) (ap (flat_map choice_lines) none) (ap end_told on)));
-      kept = record { fresh = λ _. (fresh, none); late = λ e. (let no : true ≡ false = sym e ∙ on in let never : ⊥ = cc in absurd never) };
-    }
+head_adds s k line on no_fill none fresh text = record {
+  text = head_gains start_header choice_lines s.head line k s.choices (end_told s.ended) no_fill fresh none (ap end_told on) text;
+  kept = head_in_turn k s.choices s.ended fresh none on;
+}
 
-by_due : (s t : StartReader) (line : List ℕ) (rest : Bool) → is_rest s.head.due ≡ rest → Keeps s → s.ended ≡ false
+by_due : (s t : StartReader) (line : List ℕ) (rest : Bool) → is_rest s.head.due ≡ rest → IsStartInTurn s → s.ended ≡ false
     → (if rest then start_rest s (fields line) else within (λ (h : Head). record s { head = h }) (head_step start_header s.head line)) ≡ Ok t → Adds s t line
 unfolding head_step
 by_due s t line true is kept on h = by_fields s t line (fields line) refl on is h
@@ -178,7 +126,7 @@ by_due s t line false is kept on h =
     subst (λ (u : StartReader). Adds s u line) m.2
     (head_adds s m.0 line on none.0 none.1 no_fill line_told.text)
 
-pub tells : Tells start_grammar Keeps told
+pub tells : Tells start_grammar IsStartInTurn told
 unfolding start_step
 tells = record {
   keeps = λ s t line kept on is. (by_due s t line (is_rest s.head.due) refl kept on is).kept;
@@ -211,7 +159,7 @@ written_text s = refl
 pub start_told : (text : List ℕ) (s : StartFile) → StatesStart text s → text ≡ start_text s
 unfolding told told_due end_told
 start_told text s h =
-    let kept : Keeps no_start = record { fresh = λ _. (refl, refl); late = λ e. cc } in
-    let last = kept_lines start_grammar Keeps told tells (lines text) 1 no_start h.read kept h.reads in
-    told_text start_grammar Keeps told tells no_start h.read text kept refl h.reads
+    let kept : IsStartInTurn no_start = record { fresh = λ _. (refl, refl); late = λ e. cc } in
+    let last = kept_lines start_grammar IsStartInTurn told tells (lines text) 1 no_start h.read kept h.reads in
+    told_text start_grammar IsStartInTurn told tells no_start h.read text kept refl h.reads
     ∙ told_written h.read (last.0.late last.1) last.1 ∙ written_same h.read s h.is ∙ written_text s

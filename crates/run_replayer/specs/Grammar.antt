@@ -75,6 +75,15 @@ is_rest _ = false
 abbrev pub no_head : Head
 no_head = record { due = due.Header; regs = replicate 8 0; flags = 0; fs = 0; gs = 0; fill = [] }
 
+-- what these lines stated is this start file, with these choices
+pub record IsStartOf (h : Head) (chosen : List Choice) (s : StartFile) : Type 0 where
+  pub regs : s.regs ≡ h.regs
+  pub flags : s.flags ≡ h.flags
+  pub fs : s.fs ≡ h.fs
+  pub gs : s.gs ≡ h.gs
+  pub fill : s.fill ≡ h.fill
+  pub choices : s.choices ≡ chosen
+
 -- ---- fills: they belong to the choice before them, and before any choice to the start
 
 abbrev pub with_head_fill : Fill → Head → Head
@@ -114,13 +123,8 @@ abbrev pub no_start : StartReader
 no_start = record { head = no_head; choices = []; ended = false }
 
 -- what was read is this start file
-pub record IsStart (read : StartReader) (s : StartFile) : Type 0 where
-  pub regs : s.regs ≡ read.head.regs
-  pub flags : s.flags ≡ read.head.flags
-  pub fs : s.fs ≡ read.head.fs
-  pub gs : s.gs ≡ read.head.gs
-  pub fill : s.fill ≡ read.head.fill
-  pub choices : s.choices ≡ read.choices
+abbrev pub IsStart : StartReader → StartFile → Type 0
+IsStart read s = IsStartOf read.head read.choices s
 
 -- what comes of a text, or its first bad line
 abbrev pub start_read : List ℕ → Result StartReader LineFault
@@ -161,12 +165,7 @@ no_record = record { head = no_head; steps = []; end = None }
 
 -- what was read is this record
 pub record IsRecord (read : RecordReader) (r : RunRecord) : Type 0 where
-  pub regs : r.start.regs ≡ read.head.regs
-  pub flags : r.start.flags ≡ read.head.flags
-  pub fs : r.start.fs ≡ read.head.fs
-  pub gs : r.start.gs ≡ read.head.gs
-  pub fill : r.start.fill ≡ read.head.fill
-  pub choices : r.start.choices ≡ []
+  pub start : IsStartOf read.head [] r.start
   pub steps : r.steps ≡ read.steps
   pub end : read.end ≡ Some r.end
 

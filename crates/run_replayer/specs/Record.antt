@@ -29,35 +29,35 @@ later_choices [] = []
 later_choices (choice ∷ choices) = choices
 
 -- the word of an outcome that is no step
-abbrev pub word_of : StepEnd → Option EndWord
-word_of (stepped next) = None
-word_of (faulted kind) = Some ends.Faulted
-word_of not_listed = Some ends.NotListed
-word_of no_stub = Some ends.NoStub
-word_of exited = Some ends.Exited
-word_of (bad_choice kind) = Some ends.BadChoice
+abbrev pub outcome_word : StepEnd → Option EndWord
+outcome_word (stepped next) = None
+outcome_word (faulted kind) = Some ends.Faulted
+outcome_word not_listed = Some ends.NotListed
+outcome_word no_stub = Some ends.NoStub
+outcome_word exited = Some ends.Exited
+outcome_word (bad_choice kind) = Some ends.BadChoice
 
 -- the step from one state to another under a choice, as it is recorded
-abbrev pub step_of : MachineState → Choice → MachineState → RunStep
-step_of m choice next = record { from = m.eip; to = next.eip; choice = choice }
+abbrev pub recorded_step : MachineState → Choice → MachineState → RunStep
+recorded_step m choice next = record { from = m.eip; to = next.eip; choice = choice }
 
 -- the machine stops where it is, for this word
 pub record Stops (image : Image) (stubs : StatedStubs) (choice : Choice) (m : MachineState) (end : EndWord) : Type 0 where
   pub outcome : StepEnd
   pub comes : StepBy image stubs choice m outcome
-  pub word : word_of outcome ≡ Some end
+  pub word : outcome_word outcome ≡ Some end
 
 -- what a call tells that makes one step: the step that was made, which leads to the new state, or why there is none
 abbrev pub IsNext : Image → StatedStubs → Choice → MachineState → Next → MachineState → Type 0
-IsNext image stubs choice m (Step s) new = StepBy image stubs choice m (stepped new) × (s ≡ step_of m choice new)
+IsNext image stubs choice m (Step s) new = StepBy image stubs choice m (stepped new) × (s ≡ recorded_step m choice new)
 IsNext image stubs choice m (End end) new = Stops image stubs choice m end
 
 -- the first of these steps is the machine's, and the others are made from where it leads
-pub record GoesOn (image : Image) (stubs : StatedStubs) (choice : Choice) (m : MachineState) (steps : List RunStep) (Rest : MachineState → List RunStep → Type 0) : Type 0 where
+pub record StepsOn (image : Image) (stubs : StatedStubs) (choice : Choice) (m : MachineState) (steps : List RunStep) (Rest : MachineState → List RunStep → Type 0) : Type 0 where
   pub next : MachineState
   pub rest : List RunStep
   pub comes : StepBy image stubs choice m (stepped next)
-  pub first : steps ≡ step_of m choice next ∷ rest
+  pub first : steps ≡ recorded_step m choice next ∷ rest
   pub goes : Rest next rest
 
 -- the steps that the machine makes from a state under these choices, at most so many, and what ends them
@@ -65,7 +65,7 @@ unfoldable pub AreMade : Image → StatedStubs → ℕ → List Choice → Machi
 AreMade image stubs zero choices m steps end = (steps ≡ []) × (end ≡ ends.Steps)
 AreMade image stubs (suc count) choices m steps end =
     ((steps ≡ []) × Stops image stubs (next_choice choices) m end)
-    ⊎ GoesOn image stubs (next_choice choices) m steps (λ next rest. AreMade image stubs count (later_choices choices) next rest end)
+    ⊎ StepsOn image stubs (next_choice choices) m steps (λ next rest. AreMade image stubs count (later_choices choices) next rest end)
 
 -- two starts are the same but for their choices
 pub record SameStart (s t : StartFile) : Type 0 where

@@ -1,6 +1,6 @@
 ghost use Rattle.std.specs.Prelude.{◌≡◌, Err, Ok, IfOk, MatchResult, OnOk};
 ghost use Rattle.text_fields.specs.Lines.{fields};
-ghost use Rattle.run_replayer.specs.Grammar.{bases_step, behind, flags_step, head_step, header_step, no_head, regs_step, with_fill, with_head_fill};
+ghost use Rattle.run_replayer.specs.Grammar.{IsStartOf, bases_step, behind, flags_step, head_step, header_step, no_head, regs_step, with_fill, with_head_fill};
 
 use crate::fields::{bases_of, regs_of, six_flags_of};
 use crate::growing::Growing;
@@ -8,6 +8,7 @@ use crate::six_flags::SixFlags;
 use memory_map::{Choice, Fill, Items};
 use std::alloc::{AllocError, Global};
 use text_fields::{FIELD, Fields, HEADER, WORD};
+use x86_machine::StartFile;
 
 /// Which line of a start file or a run record is due.
 #[derive(Clone, Copy, Debug, PartialEq, Eq)]
@@ -123,6 +124,28 @@ impl Head {
         self.gs = gs;
         self.due = Due::Rest;
         Ok(())
+    }
+
+    /// The start file of these lines, with these choices; takes no memory.
+    pub fn into_start(self, choices: Items<Choice>) -> StartFile
+        ensures { IsStartOf self choices result }
+    {
+        let Head {
+            due: _,
+            regs,
+            flags,
+            fs,
+            gs,
+            fill,
+        } = self;
+        StartFile {
+            regs,
+            flags: flags.get(),
+            fs,
+            gs,
+            fill: fill.into_items(),
+            choices,
+        }
     }
 
     /// Puts a fill behind those of the start.

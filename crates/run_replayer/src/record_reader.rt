@@ -10,7 +10,6 @@ use crate::{EndWord, RunRecord, RunStep};
 use memory_map::{Fill, Items};
 use std::alloc::{AllocError, Global};
 use text_fields::{FIELD, Fields, LineReader, LineRefusal, TextFault, WORD, read_lines};
-use x86_machine::StartFile;
 
 /// What the lines of a run record have stated so far.
 #[derive(Drop)]
@@ -87,24 +86,8 @@ impl RecordReader {
             steps,
             end: _,
         } = self;
-        let Head {
-            due: _,
-            regs,
-            flags,
-            fs,
-            gs,
-            fill,
-        } = head;
-        let start = StartFile {
-            regs,
-            flags: flags.get(),
-            fs,
-            gs,
-            fill: fill.into_items(),
-            choices: Items::from_vec(Vec::new(alloc)),
-        };
         RunRecord {
-            start,
+            start: head.into_start(Items::from_vec(Vec::new(alloc))),
             steps: steps.into_items(),
             end,
         }

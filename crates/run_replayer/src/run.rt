@@ -12,7 +12,7 @@ use x86_machine::{Machine, Outcome, StartFile};
 
 /// Steps that were made, and what ended them.
 #[derive(Drop)]
-struct Made {
+struct MadeSteps {
     steps: Items<RunStep>,
     end: EndWord,
 }
@@ -126,7 +126,7 @@ fn make_steps(
     mut machine: Machine,
     choices: &[Choice],
     count: u32,
-) -> Result<Made, NoMemory>
+) -> Result<MadeSteps, NoMemory>
     ensures { IfOk result (λ made. AreMade image.now stubs.now count choices.now machine made.steps made.end) }
 {
     let mut steps = Vec::new(alloc);
@@ -135,14 +135,14 @@ fn make_steps(
         match make_step(image, stubs, &mut machine, choice)? {
             Next::Step(step) => steps.push(step)?,
             Next::End(end) => {
-                return Ok(Made {
+                return Ok(MadeSteps {
                     steps: Items::from_vec(steps),
                     end,
                 });
             }
         }
     }
-    Ok(Made {
+    Ok(MadeSteps {
         steps: Items::from_vec(steps),
         end: EndWord::Steps,
     })
@@ -169,7 +169,7 @@ pub fn run_machine(
         start.choices.as_slice(),
         steps,
     )?;
-    let Made { steps, end } = made;
+    let MadeSteps { steps, end } = made;
     Ok(RunRecord {
         start: copy,
         steps,

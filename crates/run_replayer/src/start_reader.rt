@@ -82,22 +82,7 @@ impl StartReader {
             choices,
             ended: _,
         } = self;
-        let Head {
-            due: _,
-            regs,
-            flags,
-            fs,
-            gs,
-            fill,
-        } = head;
-        StartFile {
-            regs,
-            flags: flags.get(),
-            fs,
-            gs,
-            fill: fill.into_items(),
-            choices: choices.into_items(),
-        }
+        head.into_start(choices.into_items())
     }
 }
 

@@ -8,7 +8,7 @@ use Rattle.std.proofs.lemmas.Option.{same_Some}
 use Rattle.toml.specs.Data.{Data, Members, as_array, as_str, as_table}
 use Rattle.toml.specs.View.{view}
 use Rattle.toml.specs.declared.value.Value.{Value}
-use Rattle.stub_file.specs.Document.{items_at, items_of, number_at, number_of, text_at, value_at}
+use Rattle.stub_file.specs.Document.{items_at, items_of, natural_at, natural_of, text_at, value_at}
 use Rattle.stub_file.specs.Rules.{is_among, is_index, is_reply, is_size_of_arguments, items_are_tables}
 use Rattle.stub_file.specs.Faults.{args_of, choices_made, has_choices, has_wrong_kind, has_wrong_type, is_missing, is_out, is_out_of_range, is_wrong, lacks_required, reply_of, stub_has, table_fault, table_has, write_has}
 use Rattle.stub_file.specs.Stated.{HasAmount, HasReply, HasWrite, HasWriteOf, IsAmount, IsBelow, IsReply, IsStubOf, IsWrite, IsWriteOf, amount_is_own, has_own_arguments, reply_is_own, write_is_own}
@@ -64,28 +64,28 @@ below limit o n e h = rw e h
 
 -- a number that is there, or an argument's index
 amount : (m : Numbers) (args : ℕ) (fixed index : Key) (t : Members) → m.high < 2 ^ 32 → args ≤ 64
-    → option_map_or (λ d. not (option_map_or (is_among m) (number_of d) false)) (value_at fixed t) false ≡ false
-    → option_map_or (λ d. not (option_map_or (is_index args) (number_of d) false)) (value_at index t) false ≡ false
+    → option_map_or (λ d. not (option_map_or (is_among m) (natural_of d) false)) (value_at fixed t) false ≡ false
+    → option_map_or (λ d. not (option_map_or (is_index args) (natural_of d) false)) (value_at index t) false ≡ false
     → (is_some (value_at fixed t) ≡ false → is_some (value_at index t) ≡ true)
     → HasAmount fixed index t
 amount m args fixed index t high few out_fixed out_index other =
     elim (cases_Bool (is_some (value_at fixed t))) [
       | inl there ↦
-          (let r = read number_of (is_among m) (value_at fixed t) there out_fixed in
-          inl (below (2 ^ 32) (number_at fixed t) r.value r.is (among_below m (2 ^ 32) r.value high r.passes)))
+          (let r = read natural_of (is_among m) (value_at fixed t) there out_fixed in
+          inl (below (2 ^ 32) (natural_at fixed t) r.value r.is (among_below m (2 ^ 32) r.value high r.passes)))
       | inr missing ↦
-          (let r = read number_of (is_index args) (value_at index t) (other missing) out_index in
-          inr (absent number_of (value_at fixed t) missing, below 256 (number_at index t) r.value r.is (index_below args r.value few r.passes)))
+          (let r = read natural_of (is_index args) (value_at index t) (other missing) out_index in
+          inr (absent natural_of (value_at fixed t) missing, below 256 (natural_at index t) r.value r.is (index_below args r.value few r.passes)))
     ]
 
 module _ (reply : List ℕ) (args : ℕ) (t : Members) (s : Sound STUB_KEYS reply args t) where
-  pub args_read : IsRead number_of is_size_of_arguments (value_at key.Args t)
+  pub args_read : IsRead natural_of is_size_of_arguments (value_at key.Args t)
   args_read =
-      read number_of is_size_of_arguments (value_at key.Args t)
+      read natural_of is_size_of_arguments (value_at key.Args t)
       (not-false (is_some (value_at key.Args t)) (none_at (is_missing reply t) STUB_KEYS 0 s.required))
       (none_at (is_out args t) STUB_KEYS 0 s.ranged)
 
-  pub cleans_fit : unwrap_or (number_at key.Cleans t) 0 ≤ 64
+  pub cleans_fit : unwrap_or (natural_at key.Cleans t) 0 ≤ 64
   cleans_fit = at_most is_size_of_arguments 64 (value_at key.Cleans t) size_at_most (none_at (is_out args t) STUB_KEYS 1 s.ranged)
 
   reply_read : IsRead as_str is_reply (value_at key.Reply t)
@@ -97,21 +97,21 @@ module _ (reply : List ℕ) (args : ℕ) (t : Members) (s : Sound STUB_KEYS repl
   pub reply_there : IsSomeAnd (text_at key.Reply t) (λ text. IsTrue (is_reply text))
   reply_there = (let r = reply_read in rw r.is r.passes)
 
-number_there : (args : ℕ) (t : Members) → Sound STUB_KEYS (codes "number") args t → IsBelow (2 ^ 32) (number_at key.Number t)
+number_there : (args : ℕ) (t : Members) → Sound STUB_KEYS (codes "number") args t → IsBelow (2 ^ 32) (natural_at key.Number t)
 number_there args t s =
     let r =
-    read number_of (is_among words) (value_at key.Number t)
+    read natural_of (is_among words) (value_at key.Number t)
     (not-false (is_some (value_at key.Number t)) (none_at (is_missing (codes "number") t) STUB_KEYS 3 s.required))
     (none_at (is_out args t) STUB_KEYS 3 s.ranged) in
-    below (2 ^ 32) (number_at key.Number t) r.value r.is (among_below words (2 ^ 32) r.value (lit< tt) r.passes)
+    below (2 ^ 32) (natural_at key.Number t) r.value r.is (among_below words (2 ^ 32) r.value (lit< tt) r.passes)
 
-enter_there : (args : ℕ) (t : Members) → args ≤ 64 → Sound STUB_KEYS (codes "enter") args t → IsBelow 256 (number_at key.EnterArg t)
+enter_there : (args : ℕ) (t : Members) → args ≤ 64 → Sound STUB_KEYS (codes "enter") args t → IsBelow 256 (natural_at key.EnterArg t)
 enter_there args t few s =
     let r =
-    read number_of (is_index args) (value_at key.EnterArg t)
+    read natural_of (is_index args) (value_at key.EnterArg t)
     (not-false (is_some (value_at key.EnterArg t)) (none_at (is_missing (codes "enter") t) STUB_KEYS 8 s.required))
     (none_at (is_out args t) STUB_KEYS 8 s.ranged) in
-    below 256 (number_at key.EnterArg t) r.value r.is (index_below args r.value few r.passes)
+    below 256 (natural_at key.EnterArg t) r.value r.is (index_below args r.value few r.passes)
 
 size_there : (args : ℕ) (t : Members) → args ≤ 64 → Sound STUB_KEYS (codes "block") args t → HasAmount key.Size key.SizeArg t
 unfolding has_choices choices_made
@@ -151,21 +151,21 @@ length_there args t few s =
 write_there : (args : ℕ) (t : Members) → args ≤ 64 → Sound WRITE_KEYS [] args t → HasWriteOf t
 write_there args t few s =
     let r =
-    read number_of (is_index args) (value_at key.Arg t)
+    read natural_of (is_index args) (value_at key.Arg t)
     (not-false (is_some (value_at key.Arg t)) (none_at (is_missing [] t) WRITE_KEYS 0 s.required))
     (none_at (is_out args t) WRITE_KEYS 0 s.ranged) in
-    (below 256 (number_at key.Arg t) r.value r.is (index_below args r.value few r.passes), length_there args t few s)
+    (below 256 (natural_at key.Arg t) r.value r.is (index_below args r.value few r.passes), length_there args t few s)
 
 amount_own : (args : ℕ) (fixed index : Key) (t : Members) (a : Amount)
-    → option_map_or (λ d. not (option_map_or (is_index args) (number_of d) false)) (value_at index t) false ≡ false
+    → option_map_or (λ d. not (option_map_or (is_index args) (natural_of d) false)) (value_at index t) false ≡ false
     → IsAmount fixed index t a → amount_is_own args a ≡ true
 amount_own args fixed index t (Fixed n) out h = refl
-amount_own args fixed index t (Argument i) out h = in_range number_of (is_index args) (value_at index t) i out h
+amount_own args fixed index t (Argument i) out h = in_range natural_of (is_index args) (value_at index t) i out h
 
 write_own : (args : ℕ) (t : Members) (w : StubWrite) → Sound WRITE_KEYS [] args t → IsWriteOf t w → write_is_own args w ≡ true
 write_own args t w s h =
     and_from (is_index args w.arg) (amount_is_own args w.length)
-    (in_range number_of (is_index args) (value_at key.Arg t) w.arg (none_at (is_out args t) WRITE_KEYS 0 s.ranged) h.arg)
+    (in_range natural_of (is_index args) (value_at key.Arg t) w.arg (none_at (is_out args t) WRITE_KEYS 0 s.ranged) h.arg)
     (amount_own args key.Length key.LengthArg t w.length (none_at (is_out args t) WRITE_KEYS 2 s.ranged) h.length)
 
 reply_own : (args : ℕ) (t : Members) (r : Reply) → list_any (is_out args t) STUB_KEYS ≡ false → IsReply t r → reply_is_own args r ≡ true
@@ -173,7 +173,7 @@ reply_own args t reply.Anything out h = refl
 reply_own args t (reply.Number n) out h = refl
 reply_own args t (reply.Block size zeroed may_fail) out h = amount_own args key.Size key.SizeArg t size (none_at (is_out args t) STUB_KEYS 5 out) h.1.size_is
 reply_own args t reply.Never out h = refl
-reply_own args t (reply.Enter i) out h = in_range number_of (is_index args) (value_at key.EnterArg t) i (none_at (is_out args t) STUB_KEYS 8 out) h.1
+reply_own args t (reply.Enter i) out h = in_range natural_of (is_index args) (value_at key.EnterArg t) i (none_at (is_out args t) STUB_KEYS 8 out) h.1
 
 -- the items of `writes`
 item_there : (args : ℕ) → args ≤ 64 → (o : Option Members) → is_some o ≡ true → option_map_or (table_has WRITE_KEYS [] args WrongKind) o false ≡ false
@@ -235,7 +235,7 @@ whole t h =
     record { stub = sound STUB_KEYS (reply_of t) (args_of t) t kinds.0 ranges.0; write_kinds = kinds.1; write_ranges = ranges.1 }
 
 module _ (t : Members) (w : Whole t) where
-  pub args_are : number_at key.Args t ≡ Some (args_of t)
+  pub args_are : natural_at key.Args t ≡ Some (args_of t)
   unfolding args_of
   args_are = (let r = args_read (reply_of t) (args_of t) t w.stub in rw r.is)
 

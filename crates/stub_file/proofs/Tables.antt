@@ -5,7 +5,7 @@ use Rattle.std.specs.Option.{option_map_or}
 use Rattle.std.proofs.lemmas.Bool.{and_parts, or_parts, false≢true, not-false}
 use Rattle.std.proofs.lemmas.Slice.Eq.{bytes_eq-Decides}
 use Rattle.toml.specs.Data.{Data}
-use Rattle.stub_file.specs.Document.{number_of}
+use Rattle.stub_file.specs.Document.{natural_of}
 use Rattle.stub_file.specs.Keys.{word_name}
 use Rattle.stub_file.specs.Rules.{is_reply}
 use Rattle.stub_file.specs.declared.keys.TheConstants.{REPLIES}
@@ -84,10 +84,10 @@ at_most_of : (test : ℕ → Bool) (limit : ℕ) → ((n : ℕ) → test n ≡ t
 at_most_of test limit bound None e = omega arith
 at_most_of test limit bound (Some n) e = bound n (not-false (test n) e)
 
-pub at_most : (test : ℕ → Bool) (limit : ℕ) (o : Option Data) → ((n : ℕ) → test n ≡ true → n ≤ limit) → option_map_or (λ d. not (option_map_or test (number_of d) false)) o false ≡ false
-    → unwrap_or (option_and_then number_of o) 0 ≤ limit
+pub at_most : (test : ℕ → Bool) (limit : ℕ) (o : Option Data) → ((n : ℕ) → test n ≡ true → n ≤ limit) → option_map_or (λ d. not (option_map_or test (natural_of d) false)) o false ≡ false
+    → unwrap_or (option_and_then natural_of o) 0 ≤ limit
 at_most test limit None bound h = omega arith
-at_most test limit (Some d) bound h = at_most_of test limit bound (number_of d) h
+at_most test limit (Some d) bound h = at_most_of test limit bound (natural_of d) h
 
 pub find_all : {X : Type 0} (fact p : X → Bool) (xs : List X) (x : X) → list_all fact xs ≡ true → find p xs ≡ Some x → fact x ≡ true
 find_all fact p [] x all found = cc

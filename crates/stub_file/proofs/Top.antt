@@ -7,7 +7,7 @@ use Rattle.memory_map.specs.Alignment.{is_alignment}
 use Rattle.memory_map.specs.Name.{is_name}
 use Rattle.memory_map.proofs.Alignments.{alignment_at_most}
 use Rattle.toml.specs.Data.{Data, Members, as_table}
-use Rattle.stub_file.specs.Document.{number_at, number_of, value_at}
+use Rattle.stub_file.specs.Document.{natural_at, natural_of, value_at}
 use Rattle.stub_file.specs.Entries.{OrMemory}
 use Rattle.stub_file.specs.Faults.{HasFault, is_out, is_out_of_range, stub_fault, stub_has, table_fault, table_has, top_fault}
 use Rattle.stub_file.specs.Stubs.{IsDocument, Refuses, align_is_kept}
@@ -18,22 +18,22 @@ use Rattle.stub_file.specs.declared.keys.Key.TheVariants as key
 use Rattle.stub_file.specs.declared.keys.TheConstants.{TOP_KEYS}
 use Rattle.stub_file.proofs.Tables.{at_most, find_all, none_at, not_found}
 
-in_range : (t : Members) → top_fault t ≡ None → option_map_or (λ d. not (option_map_or is_alignment (number_of d) false)) (value_at key.StackAlign t) false ≡ false
+in_range : (t : Members) → top_fault t ≡ None → option_map_or (λ d. not (option_map_or is_alignment (natural_of d) false)) (value_at key.StackAlign t) false ≡ false
 unfolding top_fault table_has is_out_of_range
 in_range t h = none_at (is_out 0 t) TOP_KEYS 0 (not_found (λ fault. table_has TOP_KEYS [] 0 fault t) FAULTS 2 h)
 
-pub align_fits : (t : Members) → top_fault t ≡ None → unwrap_or (number_at key.StackAlign t) 0 ≤ 4096
+pub align_fits : (t : Members) → top_fault t ≡ None → unwrap_or (natural_at key.StackAlign t) 0 ≤ 4096
 align_fits t h = at_most is_alignment 4096 (value_at key.StackAlign t) alignment_at_most (in_range t h)
 
 kept_number : (o : Option ℕ) → not (option_map_or is_alignment o false) ≡ false → align_is_kept o ≡ true
 kept_number None h = absurd (false≢true (not-false false h))
 kept_number (Some n) h = not-false (is_alignment n) h
 
-kept : (o : Option Data) → option_map_or (λ d. not (option_map_or is_alignment (number_of d) false)) o false ≡ false → align_is_kept (option_and_then number_of o) ≡ true
+kept : (o : Option Data) → option_map_or (λ d. not (option_map_or is_alignment (natural_of d) false)) o false ≡ false → align_is_kept (option_and_then natural_of o) ≡ true
 kept None h = refl
-kept (Some d) h = kept_number (number_of d) h
+kept (Some d) h = kept_number (natural_of d) h
 
-pub align_kept : (t : Members) → top_fault t ≡ None → align_is_kept (number_at key.StackAlign t) ≡ true
+pub align_kept : (t : Members) → top_fault t ≡ None → align_is_kept (natural_at key.StackAlign t) ≡ true
 align_kept t h = kept (value_at key.StackAlign t) (in_range t h)
 
 -- the faults of a document

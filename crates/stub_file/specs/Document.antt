@@ -16,9 +16,9 @@ items_in no_items = []
 items_in (item d ds) = d ∷ items_in ds
 
 -- the number, of an integer that is not negative
-abbrev pub number_of : Data → Option ℕ
-number_of (integer (pos n)) = Some n
-number_of _ = None
+abbrev pub natural_of : Data → Option ℕ
+natural_of (integer (pos n)) = Some n
+natural_of _ = None
 
 -- the items of an array, and none of any other value
 abbrev pub items_of : Data → List Data
@@ -27,8 +27,8 @@ items_of d = option_map_or items_in (as_array d) []
 abbrev pub value_at : Key → Members → Option Data
 value_at key t = get_member (key_name key) t
 
-abbrev pub number_at : Key → Members → Option ℕ
-number_at key t = option_and_then number_of (value_at key t)
+abbrev pub natural_at : Key → Members → Option ℕ
+natural_at key t = option_and_then natural_of (value_at key t)
 
 abbrev pub text_at : Key → Members → Option (List ℕ)
 text_at key t = option_and_then as_str (value_at key t)

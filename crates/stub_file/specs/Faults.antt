@@ -7,7 +7,7 @@ use Rattle.std.specs.declared.cmp.Ordering.TheVariants.{Less}
 use Rattle.std.specs.Option.{option_map_or}
 use Rattle.memory_map.specs.Name.{is_name}
 use Rattle.toml.specs.Data.{Data, as_table, Members, no_members, get_member}
-use Rattle.stub_file.specs.Document.{keys_in, items_at, number_at, text_at, value_at}
+use Rattle.stub_file.specs.Document.{keys_in, items_at, natural_at, text_at, value_at}
 use Rattle.stub_file.specs.Keys.{key_name}
 use Rattle.stub_file.specs.Rules.{belongs, has_type, is_choice, is_in_range, is_present, is_required}
 use Rattle.stub_file.specs.declared.fault.StubFault.{StubFault}
@@ -76,7 +76,7 @@ unfoldable pub reply_of : Members → List ℕ
 reply_of t = unwrap_or (text_at key.Reply t) []
 
 unfoldable pub args_of : Members → ℕ
-args_of t = unwrap_or (number_at key.Args t) 0
+args_of t = unwrap_or (natural_at key.Args t) 0
 
 -- whether an item of `writes` is a table that has the fault
 unfoldable pub write_has : ℕ → StubFault → Data → Bool

@@ -4,7 +4,7 @@ use Rattle.std.specs.List.{list_all, list_any}
 use Rattle.std.specs.Option.{option_map_or}
 use Rattle.memory_map.specs.Alignment.{is_alignment}
 use Rattle.toml.specs.Data.{Data, as_str, as_integer, as_bool, as_array, as_table, Members}
-use Rattle.stub_file.specs.Document.{items_of, number_of, value_at}
+use Rattle.stub_file.specs.Document.{items_of, natural_of, value_at}
 use Rattle.stub_file.specs.Keys.{word_name}
 use Rattle.stub_file.specs.declared.keys.Kind.{Kind}
 use Rattle.stub_file.specs.declared.keys.Kind.TheVariants as kind
@@ -46,10 +46,10 @@ is_reply text = list_any (λ word. bytes_eq (word_name word) text) REPLIES
 
 -- the range of a value, where the arguments of the stub have so many bytes
 abbrev pub is_in_range : ℕ → Kind → Data → Bool
-is_in_range args (kind.Number numbers) d = option_map_or (is_among numbers) (number_of d) false
-is_in_range args kind.Bytes d = option_map_or is_size_of_arguments (number_of d) false
-is_in_range args kind.Alignment d = option_map_or is_alignment (number_of d) false
-is_in_range args kind.Index d = option_map_or (is_index args) (number_of d) false
+is_in_range args (kind.Number numbers) d = option_map_or (is_among numbers) (natural_of d) false
+is_in_range args kind.Bytes d = option_map_or is_size_of_arguments (natural_of d) false
+is_in_range args kind.Alignment d = option_map_or is_alignment (natural_of d) false
+is_in_range args kind.Index d = option_map_or (is_index args) (natural_of d) false
 is_in_range args kind.Reply d = option_map_or is_reply (as_str d) false
 is_in_range args kind.Truth d = true
 is_in_range args kind.Writes d = nat_le (length (items_of d)) 4

@@ -2,7 +2,7 @@
 use Rattle.std.specs.Prelude.{◌≡◌, ℕ, ◌<◌, ◌^◌, ◌&&◌, Bool, true, false, ◌⊎◌, Option, Some, None, IsSomeAnd, IsTrue, unwrap_or}
 use Rattle.std.specs.List.{AllZip, list_all}
 use Rattle.toml.specs.Data.{Data, as_table, Members}
-use Rattle.stub_file.specs.Document.{items_at, number_at, text_at, truth_at}
+use Rattle.stub_file.specs.Document.{items_at, natural_at, text_at, truth_at}
 use Rattle.stub_file.specs.Keys.{word_name}
 use Rattle.stub_file.specs.Rules.{is_index, is_reply}
 use Rattle.stub_file.specs.declared.keys.Key.{Key}
@@ -17,8 +17,8 @@ use Rattle.stub_file.specs.declared.stub.StubWrite.{StubWrite}
 
 -- the number at a key, or the argument whose index is at another
 abbrev pub IsAmount : Key → Key → Members → Amount → Type 0
-IsAmount fixed index t (Fixed n) = number_at fixed t ≡ Some n
-IsAmount fixed index t (Argument i) = number_at index t ≡ Some i
+IsAmount fixed index t (Fixed n) = natural_at fixed t ≡ Some n
+IsAmount fixed index t (Argument i) = natural_at index t ≡ Some i
 
 -- the size of a block, and the truth values that are false where they are not there
 pub record IsBlock (t : Members) (size : Amount) (zeroed may_fail : Bool) : Type 0 where
@@ -28,13 +28,13 @@ pub record IsBlock (t : Members) (size : Amount) (zeroed may_fail : Bool) : Type
 
 abbrev pub IsReply : Members → Reply → Type 0
 IsReply t reply.Anything = text_at key.Reply t ≡ Some (word_name word.Any)
-IsReply t (reply.Number n) = (text_at key.Reply t ≡ Some (word_name word.Number)) × (number_at key.Number t ≡ Some n)
+IsReply t (reply.Number n) = (text_at key.Reply t ≡ Some (word_name word.Number)) × (natural_at key.Number t ≡ Some n)
 IsReply t (reply.Block size zeroed may_fail) = (text_at key.Reply t ≡ Some (word_name word.Block)) × IsBlock t size zeroed may_fail
 IsReply t reply.Never = text_at key.Reply t ≡ Some (word_name word.Never)
-IsReply t (reply.Enter i) = (text_at key.Reply t ≡ Some (word_name word.Enter)) × (number_at key.EnterArg t ≡ Some i)
+IsReply t (reply.Enter i) = (text_at key.Reply t ≡ Some (word_name word.Enter)) × (natural_at key.EnterArg t ≡ Some i)
 
 pub record IsWriteOf (t : Members) (w : StubWrite) : Type 0 where
-  pub arg : number_at key.Arg t ≡ Some w.arg
+  pub arg : natural_at key.Arg t ≡ Some w.arg
   pub length : IsAmount key.Length key.LengthArg t w.length
 
 abbrev pub IsWrite : Data → StubWrite → Type 0
@@ -42,8 +42,8 @@ IsWrite d w = IsSomeAnd (as_table d) (λ t. IsWriteOf t w)
 
 -- the stub of a table
 pub record IsStubOf (t : Members) (s : Stub) : Type 0 where
-  pub args : number_at key.Args t ≡ Some s.args
-  pub cleans : unwrap_or (number_at key.Cleans t) 0 ≡ s.cleans
+  pub args : natural_at key.Args t ≡ Some s.args
+  pub cleans : unwrap_or (natural_at key.Cleans t) 0 ≡ s.cleans
   pub reply : IsReply t s.reply
   pub writes : AllZip IsWrite (items_at key.Writes t) s.writes.items
 
@@ -71,16 +71,16 @@ abbrev pub IsBelow : ℕ → Option ℕ → Type 0
 IsBelow limit o = IsSomeAnd o (λ n. n < limit)
 
 abbrev pub HasAmount : Key → Key → Members → Type 0
-HasAmount fixed index t = IsBelow (2 ^ 32) (number_at fixed t) ⊎ ((number_at fixed t ≡ None) × IsBelow 256 (number_at index t))
+HasAmount fixed index t = IsBelow (2 ^ 32) (natural_at fixed t) ⊎ ((natural_at fixed t ≡ None) × IsBelow 256 (natural_at index t))
 
 abbrev pub HasWriteOf : Members → Type 0
-HasWriteOf t = IsBelow 256 (number_at key.Arg t) × HasAmount key.Length key.LengthArg t
+HasWriteOf t = IsBelow 256 (natural_at key.Arg t) × HasAmount key.Length key.LengthArg t
 
 abbrev pub HasWrite : Data → Type 0
 HasWrite d = IsSomeAnd (as_table d) HasWriteOf
 
 pub record HasReply (t : Members) : Type 0 where
   pub reply : IsSomeAnd (text_at key.Reply t) (λ text. IsTrue (is_reply text))
-  pub number : text_at key.Reply t ≡ Some (word_name word.Number) → IsBelow (2 ^ 32) (number_at key.Number t)
+  pub number : text_at key.Reply t ≡ Some (word_name word.Number) → IsBelow (2 ^ 32) (natural_at key.Number t)
   pub block : text_at key.Reply t ≡ Some (word_name word.Block) → HasAmount key.Size key.SizeArg t
-  pub enter : text_at key.Reply t ≡ Some (word_name word.Enter) → IsBelow 256 (number_at key.EnterArg t)
+  pub enter : text_at key.Reply t ≡ Some (word_name word.Enter) → IsBelow 256 (natural_at key.EnterArg t)

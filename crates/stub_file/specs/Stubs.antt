@@ -5,7 +5,7 @@ use Rattle.std.specs.Option.{option_map_or}
 use Rattle.memory_map.specs.Alignment.{is_alignment}
 use Rattle.toml.specs.Data.{Members, no_members, member, same_key}
 use Rattle.toml.specs.Parse.{parse_document}
-use Rattle.stub_file.specs.Document.{number_at}
+use Rattle.stub_file.specs.Document.{natural_at}
 use Rattle.stub_file.specs.Faults.{HasFault, IsFaultless, stubs_in}
 use Rattle.stub_file.specs.Stated.{IsStub}
 use Rattle.stub_file.specs.declared.fault.StubFault.{StubFault}
@@ -34,7 +34,7 @@ AreStubs (member name d t) (e ∷ es) = (e.0 ≡ name) × IsStub d e.1 × AreStu
 
 -- what a document states
 pub record IsStated (t : Members) (s : StatedStubs) : Type 0 where
-  pub align : s.align ≡ number_at key.StackAlign t
+  pub align : s.align ≡ natural_at key.StackAlign t
   pub named : AreStubs (stubs_in t) s.named
 
 -- what is true of all stubs: the alignment is one of a stack, and each index is that of an argument

@@ -1,13 +1,13 @@
 ghost use Rattle.std.specs.Prelude.{◌≡◌, ◌<◌, ◌≤◌, ◌^◌, None, Some, IsSomeAnd, All, IsTrue, bytes_eq, false, find, length, unwrap_or};
 ghost use Rattle.std.specs.List.{AllZip};
-ghost use Rattle.stub_file.specs.Document.{number_at, text_at, truth_at};
+ghost use Rattle.stub_file.specs.Document.{natural_at, text_at, truth_at};
 ghost use Rattle.stub_file.specs.Faults.{table_fault};
 ghost use Rattle.stub_file.specs.Rules.{is_reply};
 ghost use Rattle.stub_file.specs.Keys.{word_name};
 ghost use Rattle.stub_file.specs.Stated.{HasAmount, HasReply, HasWrite, HasWriteOf, IsAmount, IsBlock, IsReply, IsStubOf, IsWrite, IsWriteOf, has_own_arguments};
 ghost use Rattle.toml.specs.View.{table_view, view};
 
-use crate::document::{items_at, number_at, truth_at};
+use crate::document::{items_at, natural_at, truth_at};
 use crate::faults::reply_of;
 use crate::keys::{Key, REPLIES, Word};
 use crate::stub::{Amount, Reply, Stub, StubWrite};
@@ -15,17 +15,17 @@ use arrayvec::ArrayVec;
 use toml::{Table, Value};
 
 fn byte_at(table: &Table, key: Key) -> u8
-    requires { unwrap_or (number_at key (table_view table.now)) 0 < 256 }
-    ensures { result ≡ unwrap_or (number_at key (table_view table.now)) 0 }
+    requires { unwrap_or (natural_at key (table_view table.now)) 0 < 256 }
+    ensures { result ≡ unwrap_or (natural_at key (table_view table.now)) 0 }
 {
-    number_at(table, key).unwrap_or(0) as u8
+    natural_at(table, key).unwrap_or(0) as u8
 }
 
 fn word_at(table: &Table, key: Key) -> u32
-    requires { unwrap_or (number_at key (table_view table.now)) 0 < 2 ^ 32 }
-    ensures { result ≡ unwrap_or (number_at key (table_view table.now)) 0 }
+    requires { unwrap_or (natural_at key (table_view table.now)) 0 < 2 ^ 32 }
+    ensures { result ≡ unwrap_or (natural_at key (table_view table.now)) 0 }
 {
-    number_at(table, key).unwrap_or(0) as u32
+    natural_at(table, key).unwrap_or(0) as u32
 }
 
 fn flag_at(table: &Table, key: Key) -> bool
@@ -39,7 +39,7 @@ fn amount_at(table: &Table, fixed: Key, index: Key) -> Amount
     requires { HasAmount fixed index (table_view table.now) }
     ensures { IsAmount fixed index (table_view table.now) result }
 {
-    match number_at(table, fixed) {
+    match natural_at(table, fixed) {
         Some(number) => Amount::Fixed(number as u32),
         None => Amount::Argument(byte_at(table, index)),
     }

@@ -1,5 +1,5 @@
 ghost use Rattle.std.specs.Prelude.{◌≡◌, map, option_map, option_copied};
-ghost use Rattle.stub_file.specs.Document.{items_at, items_of, number_at, number_of, text_at, truth_at, value_at};
+ghost use Rattle.stub_file.specs.Document.{items_at, items_of, natural_at, natural_of, text_at, truth_at, value_at};
 ghost use Rattle.toml.specs.View.{table_view, view};
 
 use crate::keys::Key;
@@ -13,8 +13,8 @@ pub fn value_at(table: &Table, key: Key) -> Option<&Value>
 }
 
 /// The number, of an integer that is not negative.
-pub fn number_of(value: &Value) -> Option<u64>
-    ensures { result ≡ number_of (view value.now) }
+pub fn natural_of(value: &Value) -> Option<u64>
+    ensures { result ≡ natural_of (view value.now) }
 {
     match value.as_integer() {
         Some(number) if number >= 0 => Some(number as u64),
@@ -32,11 +32,11 @@ pub fn items_of(value: &Value) -> &[Value]
     }
 }
 
-pub fn number_at(table: &Table, key: Key) -> Option<u64>
-    ensures { result ≡ number_at key (table_view table.now) }
+pub fn natural_at(table: &Table, key: Key) -> Option<u64>
+    ensures { result ≡ natural_at key (table_view table.now) }
 {
     match value_at(table, key) {
-        Some(value) => number_of(value),
+        Some(value) => natural_of(value),
         None => None,
     }
 }

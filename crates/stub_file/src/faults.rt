@@ -4,7 +4,7 @@ ghost use Rattle.std.specs.List.{list_any};
 ghost use Rattle.stub_file.specs.Faults.{args_of, choices_made, has_both, has_choices, has_other_reply, has_rule, has_unknown_key, has_wrong_kind, has_wrong_type, is_missing, is_out, is_out_of_range, is_wrong, lacks_required, reply_of, stub_has, table_fault, table_has, top_fault, write_has};
 ghost use Rattle.toml.specs.View.{table_view, view};
 
-use crate::document::{items_at, number_at, text_at, value_at};
+use crate::document::{items_at, natural_at, text_at, value_at};
 use crate::fault::{FAULTS, StubFault};
 use crate::keys::{Key, Rule, STUB_KEYS, TOP_KEYS, WRITE_KEYS};
 use crate::rules::{has_type, is_in_range};
@@ -147,7 +147,7 @@ pub fn reply_of(table: &Table) -> &str
 pub fn args_of(table: &Table) -> u64
     ensures { result ≡ args_of (table_view table.now) }
 {
-    number_at(table, Key::Args).unwrap_or(0)
+    natural_at(table, Key::Args).unwrap_or(0)
 }
 
 #[tactic(auto, unfolding(crate::specs::Faults::write_has))]

@@ -1,10 +1,8 @@
-ghost use Rattle.std.specs.Prelude.{◌≡◌, ◌&&◌, ◌<◌, ◌^◌, IfErr, IfOk, IsTrue, None, OnOk, nat_le, length, option_and_then, option_map, true, unwrap_or};
+ghost use Rattle.std.specs.Prelude.{◌≡◌, ◌<◌, ◌^◌, IfErr, IfOk, IsTrue, None, OnOk, option_and_then, option_map, true, unwrap_or};
 ghost use Rattle.std.specs.BTreeMap.{insert_entry};
 ghost use Rattle.std.specs.Cmp.Lexicographic.{slice_cmp};
-ghost use Rattle.std.specs.List.{list_all};
 ghost use Rattle.std.specs.Ordering.{nat_cmp};
-ghost use Rattle.memory_map.specs.Name.{is_name, is_name_byte};
-ghost use Rattle.stub_file.specs.Document.{number_at, value_at};
+ghost use Rattle.stub_file.specs.Document.{natural_at, value_at};
 ghost use Rattle.stub_file.specs.Entries.{AreRead, OrMemory, Puts};
 ghost use Rattle.stub_file.specs.Faults.{AreFaultless, HasFault, IsFaultless, IsFirstFault, stub_fault, stubs_in, top_fault};
 ghost use Rattle.stub_file.specs.Stated.{IsStub, has_own_arguments};
@@ -13,29 +11,16 @@ ghost use Rattle.toml.specs.Data.{as_table};
 ghost use Rattle.toml.specs.View.{table_view, view};
 
 use crate::build::stub_of;
-use crate::document::{number_at, value_at};
+use crate::document::{natural_at, value_at};
 use crate::fault::StubFault;
 use crate::faults::{table_fault, top_fault};
 use crate::keys::Key;
 use crate::stub::Stub;
 use crate::stubs::Stubs;
-use memory_map::LONGEST_NAME;
+use memory_map::is_name;
 use std::alloc::Global;
 use std::collections::BTreeMap;
 use toml::{Table, Value};
-
-fn are_name_bytes(bytes: &[u8]) -> bool
-    ensures { result ≡ list_all is_name_byte bytes.now }
-{
-    bytes.iter().all(|b| 0x21 <= *b && *b <= 0x7E)
-}
-
-/// Whether the bytes are the name of an import.
-fn is_name(bytes: &[u8]) -> bool
-    ensures { result ≡ is_name bytes.now }
-{
-    1 <= bytes.len() && bytes.len() <= LONGEST_NAME && are_name_bytes(bytes)
-}
 
 #[tactic(auto, unfolding(crate::specs::Faults::stub_fault))]
 fn read_stub(name: &str, value: &Value) -> Result<Stub, StubFault>
@@ -103,10 +88,10 @@ fn read_all(alloc: Global, table: &Table) -> Result<BTreeMap<Vec<u8>, Stub>, Stu
 }
 
 fn align_at(table: &Table) -> Option<u32>
-    requires { unwrap_or (number_at Key.StackAlign (table_view table.now)) 0 < 2 ^ 32 }
-    ensures { result ≡ number_at Key.StackAlign (table_view table.now) }
+    requires { unwrap_or (natural_at Key.StackAlign (table_view table.now)) 0 < 2 ^ 32 }
+    ensures { result ≡ natural_at Key.StackAlign (table_view table.now) }
 {
-    match number_at(table, Key::StackAlign) {
+    match natural_at(table, Key::StackAlign) {
         Some(number) => Some(number as u32),
         None => None,
     }

@@ -4,7 +4,7 @@ ghost use Rattle.stub_file.specs.Rules.{belongs, has_type, is_among, is_choice, 
 ghost use Rattle.toml.specs.Data.{as_table};
 ghost use Rattle.toml.specs.View.{table_view, view};
 
-use crate::document::{items_of, number_of, value_at};
+use crate::document::{items_of, natural_of, value_at};
 use crate::keys::{Kind, Need, Numbers, REPLIES, Rule};
 use memory_map::is_alignment;
 use toml::{Table, Value};
@@ -60,10 +60,10 @@ pub fn is_in_range(args: u64, kind: Kind, value: &Value) -> bool
     ensures { result ≡ is_in_range args kind (view value.now) }
 {
     match kind {
-        Kind::Number(numbers) => number_of(value).is_some_and(|n| numbers.has(n)),
-        Kind::Bytes => number_of(value).is_some_and(is_size_of_arguments),
-        Kind::Alignment => number_of(value).is_some_and(|n| is_alignment(n)),
-        Kind::Index => number_of(value).is_some_and(|n| n < args / 4),
+        Kind::Number(numbers) => natural_of(value).is_some_and(|n| numbers.has(n)),
+        Kind::Bytes => natural_of(value).is_some_and(is_size_of_arguments),
+        Kind::Alignment => natural_of(value).is_some_and(|n| is_alignment(n)),
+        Kind::Index => natural_of(value).is_some_and(|n| n < args / 4),
         Kind::Reply => value.as_str().is_some_and(is_reply),
         Kind::Writes => items_of(value).len() <= 4,
         Kind::Truth | Kind::Table => true,

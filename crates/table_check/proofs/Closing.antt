@@ -1,14 +1,13 @@
 -- A table of which no row fails is closed, and no run leaves it before a marked location.
-use Rattle.std.proofs.Common.{◌≡◌, ℕ, ◌+◌, ◌==◌, Bool, true, false, List, [], ◌∷◌, length, map, Option, Some, None, refl, sym, ◌∙◌, ap, subst, arith, inl, inr}
+use Rattle.std.proofs.Common.{◌≡◌, ℕ, ◌+◌, ◌==◌, Bool, true, false, List, [], ◌∷◌, length, map, Option, Some, None, refl, ◌∙◌, ap, subst, arith, inl, inr}
 use Rattle.std.specs.Prelude.{Contains, All, not, ◌&&◌, ◌||◌, slice_get, option_map, if◌then◌else◌}
 use Rattle.std.specs.List.{list_all, list_any, enumerate_from}
-use Rattle.std.proofs.lemmas.Bool.Decides.{nat_tests}
 use Rattle.memory_map.specs.Image.{Image, IsLoaded}
 use Rattle.stub_file.specs.Stubs.{StatedStubs}
 use Rattle.flow_log.specs.Analysis.{Analysis}
 use Rattle.flow_log.specs.declared.edge.Edge.{Edge}
 use Rattle.flow_log.specs.Sound.{IsClosed, IsDone, IsRepresented}
-use Rattle.flow_log.proofs.Members.{Contains-cases, Contains-filter_map, Contains-flat_map, Contains-here, Contains-later, Contains-map, Contains-none, Contains-numbered, Contains-slice_get, position_of}
+use Rattle.flow_log.proofs.Members.{Contains-filter_map, Contains-flat_map, Contains-here, Contains-later, Contains-map, Contains-none, Contains-numbered, Contains-slice_get, position_of}
 use Rattle.flow_log.proofs.Induction.{run_follows, start_known}
 use Rattle.x86_machine.specs.Machine.{machine_of}
 use Rattle.domain_laws.specs.Laws.{Values, IsLawful}
@@ -21,9 +20,9 @@ use Rattle.table_check.specs.declared.table.Table.{Table}
 use Rattle.table_check.specs.Closed.{IsYes, answer_by, broken_by, clause_broken, edges_from, edges_of, first_broken, has_no_cause, is_covered, is_marked, leads_to_rows, rows_broken, starts, table_answer, table_edges, START, CAUSE, NEXT}
 use Rattle.table_check.specs.Laws.{IsClosedTable, IsMarked, RunsAreFollowedBy}
 use Rattle.std.proofs.lemmas.Bool.{and_parts}
-
-same_place : (a b : ℕ) → (a == b) ≡ true → a ≡ b
-same_place a b e = grind (arith, nat_tests)
+use Rattle.std.proofs.lemmas.List.Elements.{All-contains}
+use Rattle.std.proofs.lemmas.List.Sums.{AllPass-from_list_all}
+use Rattle.text_fields.proofs.Found.{equal}
 
 -- ---- members that pass a test
 
@@ -44,17 +43,11 @@ any_found t [] h = absurd (cc)
 any_found t (x ∷ xs) h = found_by t x xs (t x) refl h (any_found t xs)
 
 pub all_of : {X : Type 0} (t : X → Bool) (xs : List X) (x : X) → list_all t xs ≡ true → Contains xs x → t x ≡ true
-all_of t [] x h held = absurd (Contains-none x held)
-all_of t (y ∷ ys) x h held =
-    let (own, others) = and_parts (t y) (list_all t ys) h in
-    elim (Contains-cases y x ys held) [
-      | inl e ↦ ap t (sym e) ∙ own
-      | inr k ↦ all_of t ys x others k
-    ]
+all_of t xs x all held = All-contains (λ x. t x ≡ true) xs x (AllPass-from_list_all t xs all) held
 
 empty_none : {X : Type 0} (xs : List X) (x : X) → (length xs == 0) ≡ true → Contains xs x → ⊥
 empty_none [] x e held = Contains-none x held
-empty_none (y ∷ ys) x e held = let none : length (y ∷ ys) ≡ 0 = same_place (length (y ∷ ys)) 0 e in omega arith
+empty_none (y ∷ ys) x e held = let none : length (y ∷ ys) ≡ 0 = equal (length (y ∷ ys)) 0 e in omega arith
 
 pub first_none : {X : Type 0} (xs : List X) → slice_get xs 0 ≡ None → xs ≡ []
 first_none [] e = refl
@@ -121,14 +114,14 @@ module _ {S E C W : Type 0} (a : Analysis S E C W) (marked : List ℕ) (rows : L
   marked_by at false e shut = e
   marked_by at true e shut =
       let f = any_found (λ m. m == at) marked e in
-      absurd (shut (subst (Contains marked) (same_place f.item at f.passes) f.held))
+      absurd (shut (subst (Contains marked) (equal f.item at f.passes) f.held))
 
   represented : (pair : ℕ × S) → is_covered a marked rows pair ≡ true → IsRepresented a rows pair.0 pair.1
   represented pair e =
       let f = any_found (λ (row : ℕ × S). row.0 == pair.0 && a.covers row.1 pair.1) rows e in
       let (at, covers) = and_parts (f.item.0 == pair.0) (a.covers f.item.1 pair.1) f.passes in
       let P : ℕ → Type 0 = λ l. Contains rows (l, f.item.1) in
-      record { row = f.item.1; in_rows = subst P (same_place f.item.0 pair.0 at) f.held; stands = inl (inr covers) }
+      record { row = f.item.1; in_rows = subst P (equal f.item.0 pair.0 at) f.held; stands = inl (inr covers) }
 
   edge_by : (row : ℕ × S) (b : Bool) (e : E) → b ≡ false → Contains (map (λ (pair : ℕ × S). a.edge row.0 row.1 pair.0) (a.expand row.0 row.1).next) e
       → Contains (if b then [] else map (λ (pair : ℕ × S). a.edge row.0 row.1 pair.0) (a.expand row.0 row.1).next) e
@@ -156,7 +149,7 @@ module _ {S E C W : Type 0} (a : Analysis S E C W) (marked : List ℕ) (rows : L
       let P : ℕ → Type 0 = λ l. Contains rows (l, row.1) in
       record {
         first = row.1;
-        first_in_rows = subst P (same_place row.0 a.entry entry) (Contains-slice_get rows 0 row at);
+        first_in_rows = subst P (equal row.0 a.entry entry) (Contains-slice_get rows 0 row at);
         first_stands = inr covers;
         done = done n;
       }

@@ -1,5 +1,5 @@
 -- Covering is an order: each state covers itself, and what covers a covering state covers.
-use Rattle.std.proofs.Common.{◌≡◌, ℕ, Bool, true, false, ◌&&◌, ◌||◌, ◌==◌, List, [], ◌∷◌, ◌++◌, ◌+◌, ◌<◌, length, take, get_or, Option, Some, None, refl, sym, subst, ap, ◌∙◌, arith, ℤ, ◌+ℤ◌, inl, inr}
+use Rattle.std.proofs.Common.{◌≡◌, ℕ, Bool, true, false, ◌&&◌, ◌||◌, ◌==◌, List, [], ◌∷◌, ◌++◌, ◌+◌, ◌<◌, length, take, get_or, Option, Some, None, refl, sym, subst, ap, ◌∙◌, arith, ℤ, ◌+ℤ◌}
 use Rattle.std.specs.Prelude.{Contains, int_le, not}
 use Rattle.std.specs.List.{list_all, list_any}
 use Rattle.std.specs.Ordering.{int_eq}
@@ -33,27 +33,16 @@ use Rattle.abstract_state.specs.Truth.{covers_truth}
 use Rattle.abstract_state.proofs.Covering.{first, rest, int-same, nat-same}
 use Rattle.abstract_state.proofs.Logic.{covers_refl}
 use Rattle.abstract_state.proofs.Raising.{int-refl, nat-refl}
-use Rattle.flow_log.proofs.Members.{Contains-cases, Contains-here, Contains-later, Contains-none, Contains-slice_get}
+use Rattle.flow_log.proofs.Members.{Contains-here, Contains-later, Contains-slice_get}
 use Rattle.table_check.proofs.Closing.{all_of, any_found}
 use Rattle.std.proofs.lemmas.Bool.{and_from}
+use Rattle.std.proofs.lemmas.List.Folds.{list_any-from_Any}
+use Rattle.automaton_text.proofs.Ascends.{list_all-push}
 
 -- ---- lists in which each member has one of another list
 
-or_here : (b c : Bool) → b ≡ true → (b || c) ≡ true
-or_here true c e = refl
-or_here false c e = absurd (cc)
-
-or_later : (b c : Bool) → c ≡ true → (b || c) ≡ true
-or_later true c e = refl
-or_later false c e = e
-
 pub any_of : {X : Type 0} (t : X → Bool) (xs : List X) (x : X) → Contains xs x → t x ≡ true → list_any t xs ≡ true
-any_of t [] x held e = absurd (Contains-none x held)
-any_of t (y ∷ ys) x held e =
-    elim (Contains-cases y x ys held) [
-      | inl same ↦ or_here (t y) (list_any t ys) (ap t same ∙ e)
-      | inr later ↦ or_later (t y) (list_any t ys) (any_of t ys x later e)
-    ]
+any_of t xs x (k, within, at) e = list_any-from_Any t xs (k, x, within, at, e)
 
 pub all_by : {X : Type 0} (t : X → Bool) (xs : List X) → ((x : X) → Contains xs x → t x ≡ true) → list_all t xs ≡ true
 all_by t [] h = refl
@@ -67,14 +56,9 @@ not_by t xs x false e held off = e
 pub not_all : {X : Type 0} (t : X → Bool) (xs : List X) (i : ℕ) (x : X) → i < length xs → x ≡ get_or xs i x → t x ≡ false → list_all t xs ≡ false
 not_all t xs i x within is off = not_by t xs x (list_all t xs) refl (Contains-slice_get xs i x (slice_get_read xs (length xs) i x refl within is)) off
 
--- a member more that passes
-all_push : {X : Type 0} (t : X → Bool) (xs : List X) (x : X) → list_all t xs ≡ true → t x ≡ true → list_all t (xs ++ x ∷ []) ≡ true
-all_push t [] x e on = and_from (t x) true on refl
-all_push t (y ∷ ys) x e on = and_from (t y) (list_all t (ys ++ x ∷ [])) (first (t y) (list_all t ys) e) (all_push t ys x (rest (t y) (list_all t ys) e) on)
-
 pub all_more : {X : Type 0} (t : X → Bool) (xs : List X) (i : ℕ) (x : X) → i < length xs → x ≡ get_or xs i x → list_all t (take i xs) ≡ true → t x ≡ true → list_all t (take (i + 1) xs) ≡ true
 all_more t xs i x within is e on =
-    ap (list_all t) (take_more xs i x within ∙ ap (λ y. take i xs ++ y ∷ []) (sym is)) ∙ all_push t (take i xs) x e on
+    ap (list_all t) (take_more xs i x within ∙ ap (λ y. take i xs ++ y ∷ []) (sym is)) ∙ list_all-push t (take i xs) x e on
 
 module _ {X : Type 0} (q : X → X → Bool) where
   each-own : ((x : X) → q x x ≡ true) → (xs : List X) → list_all (λ x. list_any (q x) xs) xs ≡ true

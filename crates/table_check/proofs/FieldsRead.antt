@@ -40,26 +40,20 @@ use Rattle.abstract_state.specs.declared.note.Note.TheVariants.{Register, Word}
 use Rattle.abstract_state.specs.Building.{are_image_bytes, is_dirty_of, is_well_note}
 use Rattle.table_check.specs.Fields.{area_of, block_by, block_fields, block_of, dirty_fields, fact_fields, flags_fields, flags_of, inside_in, k_fields, k_of, low_in, many_of, note_fields, place_by, region_by, region_of, register_note, register_of, regs_fields, truth_of, truths_by, value_by, value_of, width_of, word_note}
 use Rattle.table_check.specs.Text.{area_text, count_text, offset_text, region_text, truth_code, value_text}
-use Rattle.table_check.specs.TextLaws.{fits_area, fits_count, fits_dirty, fits_fact, fits_note, fits_region, fits_value, is_made, is_word}
-use Rattle.table_check.proofs.FieldsTold.{block_list, dirty_list, fact_list, note_list}
+use Rattle.table_check.specs.TextLaws.{fits_area, fits_count, fits_dirty, fits_fact, fits_note, fits_region, fits_value, is_made}
+use Rattle.table_check.proofs.FieldsTold.{block_list, dirty_list, fact_list, note_list, low_bits}
 use Rattle.std.proofs.lemmas.Bool.{and_parts, and_from}
 use Rattle.text_fields.proofs.Cutting.{cut-there, cut-nowhere, lacks}
 use Rattle.text_fields.specs.Lines.{cut_at}
 use Rattle.text_fields.proofs.PlainTexts.{is_plain, plain_word, plain_decimal, digit_above}
+use Rattle.automaton_text.specs.Laws.{is_word}
+use Rattle.automaton_text.proofs.Ascending.{less, test_less}
+use Rattle.automaton_text.proofs.ReadBack.{word_small}
 
 -- ---- small facts
 
-pub word_small : (n : ℕ) → is_word n ≡ true → n < 2 ^ 32
-word_small n e = grind (arith, nat_tests)
-
-less_true : (a b : ℕ) → a < b → nat_lt a b ≡ true
-less_true a b h = grind (arith, nat_tests)
-
 not_less : (a b : ℕ) → b ≤ a → nat_lt a b ≡ false
 not_less a b h = grind (arith, nat_tests)
-
-less_of : (a b : ℕ) → nat_lt a b ≡ true → a < b
-less_of a b e = grind (arith, nat_tests)
 
 -- ---- bytes of texts
 
@@ -141,15 +135,12 @@ region_no_colon r = all_region (λ b. not (b == 58)) digit_no_colon refl refl re
 -- ---- offsets and sizes
 
 signed_from : (n m : ℕ) → n < 2 ^ 31 → m ≡ n → (if nat_lt m (2 ^ 31) then pos m else negsuc (2 ^ 32 - 1 - m)) ≡ pos n
-signed_from n m small is = ap (λ t. if t then pos m else negsuc (2 ^ 32 - 1 - m)) (less_true m (2 ^ 31) (omega (arith, is))) ∙ ap pos is
+signed_from n m small is = ap (λ t. if t then pos m else negsuc (2 ^ 32 - 1 - m)) (test_less m (2 ^ 31) (omega (arith, is))) ∙ ap pos is
 
 signed_below : (n m : ℕ) → n < 2 ^ 31 → m ≡ 2 ^ 32 - 1 - n → (if nat_lt m (2 ^ 31) then pos m else negsuc (2 ^ 32 - 1 - m)) ≡ negsuc n
 signed_below n m small is =
     let back : 2 ^ 32 - 1 - m ≡ n = omega (arith, is) in
     ap (λ t. if t then pos m else negsuc (2 ^ 32 - 1 - m)) (not_less m (2 ^ 31) (omega (arith, is))) ∙ ap negsuc back
-
-low_bits : (n : ℕ) → n < 2 ^ 32 → n % 2 ^ 32 ≡ n
-low_bits n small = omega arith
 
 signed_pos : (n : ℕ) → n < 2 ^ 31 → signed_of B32 (word_in B32 (pos n)) ≡ pos n
 signed_pos n small =
@@ -163,12 +154,12 @@ signed_neg n small =
 
 -- a signed word is read back
 pub signed_read : (o : ℤ) → is_signed B32 o ≡ true → signed_of B32 (word_in B32 o) ≡ o
-signed_read (pos n) e = signed_pos n (less_of n (2 ^ 31) e)
-signed_read (negsuc n) e = signed_neg n (less_of n (2 ^ 31) e)
+signed_read (pos n) e = signed_pos n (less n (2 ^ 31) e)
+signed_read (negsuc n) e = signed_neg n (less n (2 ^ 31) e)
 
 is_signed_by : (o : ℤ) → neg_ℤ (pos (2 ^ 31)) ≤ℤ o → o <ℤ pos (2 ^ 31) → is_signed B32 o ≡ true
-is_signed_by (pos n) low high = less_true n (2 ^ 31) (omega (arith, ints, high))
-is_signed_by (negsuc n) low high = less_true n (2 ^ 31) (omega (arith, ints, low))
+is_signed_by (pos n) low high = test_less n (2 ^ 31) (omega (arith, ints, high))
+is_signed_by (negsuc n) low high = test_less n (2 ^ 31) (omega (arith, ints, low))
 
 -- an offset from 0 on is read back
 unsigned_read : (o : ℤ) → pos 0 ≤ℤ o → o <ℤ pos (2 ^ 32) → pos (word_in B32 o) ≡ o
@@ -347,7 +338,7 @@ many_read false = refl
 
 below_read : (n : ℕ) → n < 2 ^ 64 → decimal_below (2 ^ 64) (decimal n) ≡ Some n
 below_read n small =
-    ap (option_and_then (λ m. if nat_lt m (2 ^ 64) then Some m else None)) (decimal_read n small) ∙ ap (λ t. if t then Some n else None) (less_true n (2 ^ 64) small)
+    ap (option_and_then (λ m. if nat_lt m (2 ^ 64) then Some m else None)) (decimal_read n small) ∙ ap (λ t. if t then Some n else None) (test_less n (2 ^ 64) small)
 
 most_true : (a b : ℕ) → a ≤ b → nat_le a b ≡ true
 most_true a b h = grind (arith, nat_tests)
@@ -359,8 +350,8 @@ k_read k least greatest =
 
 register_read : (r : ℕ) → nat_lt r 8 ≡ true → register_of (decimal r) ≡ Some r
 register_read r small =
-    let less : r < 8 = less_of r 8 small in
-    ap (option_and_then (λ n. if nat_lt n 8 then Some n else None)) (below_read r (omega (arith, less))) ∙ ap (λ t. if t then Some r else None) small
+    let below : r < 8 = less r 8 small in
+    ap (option_and_then (λ n. if nat_lt n 8 then Some n else None)) (below_read r (omega (arith, below))) ∙ ap (λ t. if t then Some r else None) small
 
 -- ---- lines behind their first words
 

@@ -1,17 +1,15 @@
 -- The fields of a table's lines are the texts of what they give.
-use Rattle.std.proofs.Common.{◌≡◌, ℕ, suc, ◌+◌, ◌*◌, ◌-◌, ◌<◌, ◌≤◌, ◌^◌, ◌%◌, ◌==◌, Bool, true, false, List, [], ◌∷◌, ◌++◌, length, map, Option, None, Some, refl, sym, ◌∙◌, ap, subst, arith, append_assoc, nat_lt, decimal, pos, negsuc}
+use Rattle.std.proofs.Common.{◌≡◌, ℕ, ◌+◌, ◌-◌, ◌<◌, ◌^◌, ◌%◌, ◌==◌, Bool, true, false, List, [], ◌∷◌, ◌++◌, length, map, Option, None, Some, refl, sym, ◌∙◌, ap, subst, arith, append_assoc, nat_lt, decimal, pos, negsuc}
 use Rattle.std.specs.Prelude.{codes, nat_le, ◌&&◌, option_and_then, option_map, if◌then◌else◌}
 use Rattle.std.specs.List.{list_all}
 use Rattle.std.specs.Str.{bytes_eq}
-use Rattle.std.proofs.Math.Nat.{mul-le-mul_left, pow-succ'}
 use Rattle.std.proofs.lemmas.Bool.Decides.{nat_tests}
 use Rattle.std.proofs.lemmas.Fmt.{decimal_digit}
 use Rattle.text_fields.specs.Decimal.{decimal_below, decimal_number}
 use Rattle.text_fields.specs.Fields.{no_more, then_field, word_of, bool_of, bool_text}
-use Rattle.text_fields.specs.Hex.{digit_number, hex8, number_after}
+use Rattle.text_fields.specs.Hex.{hex8}
 use Rattle.text_fields.proofs.DecimalFacts.{decimal_is_text}
 use Rattle.text_fields.proofs.FieldTexts.{has_field, is_done, word_is, bool_is}
-use Rattle.text_fields.proofs.HexFacts.{digit_is}
 use Rattle.bit_words.specs.declared.width.Width.{Width}
 use Rattle.bit_words.specs.declared.width.Width.TheVariants.{B8, B16, B32}
 use Rattle.bit_words.specs.Width.{bytes_of, signed_of, word_of as word_in}
@@ -37,6 +35,8 @@ use Rattle.std.proofs.lemmas.Bool.{and_from}
 use Rattle.text_fields.proofs.Found.{if_some, mapped, chained, same_word}
 use Rattle.text_fields.proofs.Cutting.{cut-is}
 use Rattle.text_fields.specs.Lines.{cut_at}
+use Rattle.automaton_text.proofs.Ascending.{less}
+use Rattle.automaton_text.proofs.HexBounds.{word_below}
 
 -- ---- what is behind a test or something found
 
@@ -50,42 +50,9 @@ word_case : {A : Type 0} (f : A → List ℕ) (field own : List ℕ) (a b : A) (
     → (if bytes_eq field own then Some a else rest) ≡ Some b → field ≡ f b
 word_case f field own a b rest same later h = word_by f field own a b rest (bytes_eq field own) refl same later h
 
--- ---- words
-
-product_below : (n m d p q : ℕ) → d < 16 → n < (m * 16 + d + 1) * p → q ≡ 16 * p → n < (m + 1) * q
-product_below n m d p q small below is =
-    let most : d + 1 ≤ 16 = omega arith in
-    let wide : p * (d + 1) ≤ p * 16 = mul-le-mul_left p most in
-    let P : ℕ → Type 0 = λ r. n < (m + 1) * r in
-    subst P (sym is) (omega arith)
-
-digit_below : (m c : ℕ) (cs : List ℕ) (n : ℕ) (digit : Option ℕ) → digit_number c ≡ digit → option_and_then (λ d. number_after (m * 16 + d) cs) digit ≡ Some n
-    → ((k : ℕ) → number_after k cs ≡ Some n → n < (k + 1) * 16 ^ length cs) → n < (m + 1) * 16 ^ suc (length cs)
-digit_below m c cs n None e h later = cc
-digit_below m c cs n (Some d) e h later =
-    let small : d < 16 = (digit_is c d e).0 in
-    let below : n < (m * 16 + d + 1) * 16 ^ length cs = later (m * 16 + d) h in
-    product_below n m d (16 ^ length cs) (16 ^ suc (length cs)) small below (pow-succ' 16 (length cs))
-
-number_below : (m : ℕ) (cs : List ℕ) (n : ℕ) → number_after m cs ≡ Some n → n < (m + 1) * 16 ^ length cs
-number_below m [] n h = let same : m ≡ n = cc in omega (arith, same)
-number_below m (c ∷ cs) n h = digit_below m c cs n (digit_number c) refl h (λ k e. number_below k cs n e)
-
-number_within : (k : ℕ) (field : List ℕ) (n : ℕ) (t : Bool) → (length field == k) ≡ t → ◌≡◌ {A = Option ℕ} (if t then number_after 0 field else None) (Some n) → n < 16 ^ k
-number_within k field n true e h =
-    let long : length field ≡ k = grind (arith, nat_tests) in
-    let below : n < (0 + 1) * 16 ^ length field = number_below 0 field n h in
-    let P : ℕ → Type 0 = λ j. n < (0 + 1) * 16 ^ j in
-    let all : n < (0 + 1) * 16 ^ k = subst P long below in
-    omega (arith, all)
-number_within k field n false e h = cc
-
-pub word_small : (field : List ℕ) (n : ℕ) → word_of field ≡ Some n → n < 2 ^ 32
-word_small field n h = number_within 8 field n (length field == 8) refl h
-
 -- ---- offsets
 
-low_bits : (n : ℕ) → n < 2 ^ 32 → n % 2 ^ 32 ≡ n
+pub low_bits : (n : ℕ) → n < 2 ^ 32 → n % 2 ^ 32 ≡ n
 low_bits n small = omega arith
 
 signed_back : (n m : ℕ) (t : Bool) → n < 2 ^ 32 → m ≡ n → nat_lt m (2 ^ 31) ≡ t → word_in B32 (if t then pos m else negsuc (2 ^ 32 - 1 - m)) ≡ n
@@ -105,13 +72,13 @@ word-low (In r) n small = low-either n (has_one_base r) small
 
 -- a field is the text of the offset that it writes
 pub low_is : (area : Area) (field : List ℕ) (n : ℕ) → word_of field ≡ Some n → field ≡ offset_text (low_in area n)
-low_is area field n h = word_is field n h ∙ ap hex8 (sym (word-low area n (word_small field n h)))
+low_is area field n h = word_is field n h ∙ ap hex8 (sym (word-low area n (word_below field n h)))
 
 pub offset_is : (field : List ℕ) (n : ℕ) → word_of field ≡ Some n → field ≡ offset_text (signed_of B32 n)
-offset_is field n h = word_is field n h ∙ ap hex8 (sym (word-signed n (word_small field n h)))
+offset_is field n h = word_is field n h ∙ ap hex8 (sym (word-signed n (word_below field n h)))
 
 pub size_is : (field : List ℕ) (n : ℕ) → word_of field ≡ Some n → field ≡ offset_text (pos n)
-size_is field n h = word_is field n h ∙ ap hex8 (sym (low_bits n (word_small field n h)))
+size_is field n h = word_is field n h ∙ ap hex8 (sym (low_bits n (word_below field n h)))
 
 -- ---- regions and areas
 
@@ -279,9 +246,6 @@ truths_are (c ∷ cs) ts h =
 pub flags_are : (field : List ℕ) (ts : List Truth) → flags_of field ≡ Some ts → field ≡ map truth_code ts
 flags_are field ts h = truths_are field ts (if_some (length field == 7) (truths_by field) ts h).1
 
-less : (a b : ℕ) → nat_lt a b ≡ true → a < b
-less a b e = grind (arith, nat_tests)
-
 -- a number in decimal that a test lets through
 below_is : (field : List ℕ) (n : ℕ) → decimal_below (2 ^ 64) field ≡ Some n → field ≡ decimal n
 below_is field n h =
@@ -402,7 +366,7 @@ register_small fs n h =
     let f = has_field register_of fs (λ r fs. then_field word_of fs (λ c fs. no_more (Register r c) fs)) n h in
     let g = has_field word_of f.others (λ c fs. no_more (Register f.value c) fs) n f.after in
     let d = is_done (Register f.value g.value) n g.others g.after in
-    subst (λ m. compared_with m < 2 ^ 32) d.same (word_small g.field g.value g.gives)
+    subst (λ m. compared_with m < 2 ^ 32) d.same (word_below g.field g.value g.gives)
 
 word_note_small : (fs : List (List ℕ)) (n : Note) → word_note fs ≡ Some n → compared_with n < 2 ^ 32
 unfolding word_note
@@ -410,7 +374,7 @@ word_note_small fs n h =
     let f = has_field word_of fs (λ o fs. then_field word_of fs (λ c fs. no_more (Word (signed_of B32 o) c) fs)) n h in
     let g = has_field word_of f.others (λ c fs. no_more (Word (signed_of B32 f.value) c) fs) n f.after in
     let d = is_done (Word (signed_of B32 f.value) g.value) n g.others g.after in
-    subst (λ m. compared_with m < 2 ^ 32) d.same (word_small g.field g.value g.gives)
+    subst (λ m. compared_with m < 2 ^ 32) d.same (word_below g.field g.value g.gives)
 
 small_by : (fs : List (List ℕ)) (n : Note) (reg word : Bool) → (if reg then register_note fs else if word then word_note fs else None) ≡ Some n → compared_with n < 2 ^ 32
 small_by fs n true word h = register_small fs n h

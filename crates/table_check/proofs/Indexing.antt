@@ -5,30 +5,11 @@ use Rattle.std.specs.Map.{lookup}
 use Rattle.std.specs.List.{list_any}
 use Rattle.std.specs.Option.{option_map_or}
 use Rattle.std.proofs.lemmas.Bool.{eqb-true}
-use Rattle.std.proofs.lemmas.List.{append-nil, length-take, map-append, take_more}
+use Rattle.std.proofs.lemmas.List.{append-nil, length-take, take_more}
 use Rattle.std.proofs.lemmas.List.Elements.{filter-append}
-use Rattle.flow_log.proofs.Members.{slice_get-append, slice_get-last}
 use Rattle.table_check.specs.declared.row_index.RowIndex.{RowIndex}
 use Rattle.table_check.specs.Checking.{AddsNumber, IsIndexOf, numbers_at, rows_at}
-
--- what numbers stand for stays as a list grows
-numbers_kept : {X : Type 0} (xs more : List X) (ns : List ℕ) (found : List X) → map (slice_get xs) ns ≡ map Some found → map (slice_get (xs ++ more)) ns ≡ map Some found
-numbers_kept xs more [] [] e = refl
-numbers_kept xs more [] (x ∷ found) e = cc
-numbers_kept xs more (n ∷ ns) [] e = cc
-numbers_kept xs more (n ∷ ns) (x ∷ found) e =
-    let here : slice_get xs n ≡ Some x = cc in
-    let rest : map (slice_get xs) ns ≡ map Some found = cc in
-    ap (λ o. o ∷ map (slice_get (xs ++ more)) ns) (slice_get-append xs more n x here) ∙ ap (λ l. Some x ∷ l) (numbers_kept xs more ns found rest)
-
--- and the last element has its number
-numbers_more : {X : Type 0} (xs : List X) (x : X) (ns : List ℕ) (found : List X) → map (slice_get xs) ns ≡ map Some found
-    → map (slice_get (xs ++ x ∷ [])) (ns ++ length xs ∷ []) ≡ map Some (found ++ x ∷ [])
-numbers_more xs x ns found e =
-    map-append (slice_get (xs ++ x ∷ [])) ns (length xs ∷ [])
-    ∙ ap (λ l. l ++ slice_get (xs ++ x ∷ []) (length xs) ∷ []) (numbers_kept xs (x ∷ []) ns found e)
-    ∙ ap (λ o. map Some found ++ o ∷ []) (slice_get-last xs x)
-    ∙ sym (map-append Some found (x ∷ []))
+use Rattle.flow_worklist.proofs.Indexing.{numbers_kept, numbers_more}
 
 -- a row more is at its own location, and at no other
 rows_more : {S : Type 0} (row : ℕ × S) (q : ℕ) (rows : List (ℕ × S)) (b : Bool) → (row.0 == q) ≡ b → rows_at q (rows ++ row ∷ []) ≡ rows_at q rows ++ cond b (row ∷ []) []

@@ -5,7 +5,7 @@ use Rattle.std.specs.List.{cons_option, enumerate_from}
 use Rattle.std.specs.Cmp.{nat_cmp_total}
 use Rattle.std.proofs.lemmas.Map.Lookups.{exact_unsigned}
 use Rattle.std.specs.Ordering.{nat_cmp}
-use Rattle.std.proofs.lemmas.Option.{slice_get-map}
+use Rattle.std.proofs.lemmas.Option.{slice_get-map, same_Some}
 use Rattle.std.proofs.lemmas.Grind.{common_steps}
 use Rattle.std.proofs.lemmas.List.Elements.{All-contains}
 use Rattle.flow_log.specs.Analysis.{Analysis}
@@ -42,9 +42,6 @@ some_rows (y ∷ ys) x at = grind (arith, common_steps)
 
 later_row : (k : ℕ) → (suc k == 0) ≡ false
 later_row k = grind (arith, common_steps)
-
-same_row : {X : Type 0} (x y : X) → Some x ≡ Some y → x ≡ y
-same_row x y e = cc
 
 clash : (b : Bool) → b ≡ true → b ≡ false → ⊥
 clash b e f = cc
@@ -85,7 +82,7 @@ module _ {S C W : Type 0} (a : Analysis S Edge C W) (IsWell : S → Type 0)
 
   no_wrong_start : (k : ℕ) (row : ℕ × S) → slice_get rows k ≡ Some row → (k == 0 && not (starts a marked rows row)) ≡ false
   no_wrong_start zero row at =
-      let same : (a.entry, a.start) ≡ row = same_row (a.entry, a.start) row (sym first ∙ at) in
+      let same : (a.entry, a.start) ≡ row = same_Some (a.entry, a.start) row (sym first ∙ at) in
       ap (λ r. not (starts a marked rows r)) (sym same) ∙ ap not starts_first
   no_wrong_start (suc k) row at = ap (λ b. b && not (starts a marked rows row)) (later_row k)
 

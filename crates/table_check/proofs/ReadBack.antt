@@ -1,6 +1,6 @@
 -- The text of a table of an image is read line by line, each line as what it was printed of.
-use Rattle.std.proofs.Common.{◌≡◌, ℕ, ◌+◌, ◌-◌, ◌<◌, ◌≤◌, ◌^◌, ◌==◌, Bool, true, false, List, [], ◌∷◌, ◌++◌, length, map, Option, None, Some, Ok, refl, sym, ◌∙◌, ap, subst, arith, append_assoc, append-nil, decimal, nat_lt, ◌+ℤ◌}
-use Rattle.std.specs.Prelude.{All, Result, codes, flat_map, nat_le, ◌&&◌, int_lt, option_map, slice_get, if◌then◌else◌}
+use Rattle.std.proofs.Common.{◌≡◌, ℕ, ◌+◌, ◌-◌, ◌<◌, ◌≤◌, ◌^◌, ◌==◌, Bool, true, false, List, [], ◌∷◌, ◌++◌, length, map, Option, None, Some, Ok, refl, sym, ◌∙◌, ap, subst, arith, append-nil, decimal, nat_lt, ◌+ℤ◌}
+use Rattle.std.specs.Prelude.{All, Result, codes, flat_map, nat_le, ◌&&◌, int_lt, if◌then◌else◌}
 use Rattle.std.specs.Option.{option_map_or}
 use Rattle.std.specs.List.{list_all}
 use Rattle.std.specs.declared.cmp.Ordering.{Ordering}
@@ -9,6 +9,7 @@ use Rattle.std.proofs.lemmas.Bool.Decides.{nat_tests}
 use Rattle.std.proofs.lemmas.Int.{ints}
 use Rattle.std.proofs.lemmas.List.Elements.{All-append, All-head, All-tail}
 use Rattle.memory_map.specs.Image.{Image, IsLoaded}
+use Rattle.memory_map.specs.Ascending.{ascend}
 use Rattle.text_fields.specs.Fields.{no_more}
 use Rattle.text_fields.specs.Hex.{hex8}
 use Rattle.text_fields.specs.Line.{newline}
@@ -21,7 +22,7 @@ use Rattle.partitioned_memory.specs.declared.fact.Fact.{Fact}
 use Rattle.partitioned_memory.specs.declared.fact.Dirty.{Dirty}
 use Rattle.partitioned_memory.specs.declared.fact.Counted.{Counted}
 use Rattle.partitioned_memory.specs.Areas.{area_cmp, by_area, is_left, is_marked}
-use Rattle.partitioned_memory.specs.Building.{are_well, ascend, is_block, is_counted_dirty, is_counted_fact, is_sound_dirty, is_sound_fact, lies_inside, may_hold}
+use Rattle.partitioned_memory.specs.Building.{are_well, is_block, is_counted_dirty, is_counted_fact, is_sound_dirty, is_sound_fact, lies_inside, may_hold}
 use Rattle.partitioned_memory.specs.Held.{PartsHeld, count_before, dirty_before, fact_before, interval_of_dirty, pair_of_fact, spot_at}
 use Rattle.partitioned_memory.proofs.FactSpots.{fact-spots, spot_before-is}
 use Rattle.partitioned_memory.proofs.Orders.{int_lt-from, int_lt-true}
@@ -39,21 +40,18 @@ use Rattle.table_check.specs.declared.stage.Stage.TheVariants as stages
 use Rattle.table_check.specs.Fields.{dirty_fields, fact_fields, regs_fields}
 use Rattle.table_check.specs.Reading.{TableSoFar, after_state, block_step, closed, closed_by, count_fields, dirty_step, end_step, fact_step, flags_step, is_dirty_above, is_fact_above, is_over, k_step, mark_or_next_step, mark_step, next_step, no_state, note_step, nothing, part_of, regs_step, row_step, state_step, table_grammar, table_read, table_step, told}
 use Rattle.table_check.specs.Text.{area_text, block_line, count_text, dirty_line, end_line, fact_line, flags_line, header_text, k_line, note_line, offset_text, open_line, region_text, regs_line, row_line, row_text, state_text, table_text, truth_code, value_text}
-use Rattle.table_check.specs.TextLaws.{FitsRow, FitsState, IsStateOf, TablesAreReadBack, fits_count, fits_dirty, fits_fact, fits_note, is_above, is_made, is_word}
+use Rattle.table_check.specs.TextLaws.{FitsRow, FitsState, IsStateOf, TablesAreReadBack, fits_count, fits_dirty, fits_fact, fits_note, is_above, is_made}
 use Rattle.table_check.proofs.FieldsTold.{block_list, dirty_list, fact_list, note_list}
-use Rattle.table_check.proofs.FieldsRead.{block_back, dirty_back, fact_back, flags_back, k_back, note_back, plain_area, plain_count, plain_region, plain_truths, plain_value_text, plain_width, regs_back, word_small}
+use Rattle.table_check.proofs.FieldsRead.{block_back, dirty_back, fact_back, flags_back, k_back, note_back, plain_area, plain_count, plain_region, plain_truths, plain_value_text, plain_width, regs_back}
 use Rattle.table_check.proofs.Told.{block_text, dirty_text, end_text, fact_text, flags_text, k_text, note_line-none, note_text, open_text, regs_text, row_head}
 use Rattle.std.proofs.lemmas.Bool.{and_parts, and_from}
-use Rattle.text_fields.proofs.LastOnes.{last_of_more}
 use Rattle.text_fields.proofs.FieldTexts.{then_given, only_word_read, number_written}
 use Rattle.text_fields.specs.Decimal.{decimal_is}
 use Rattle.text_fields.proofs.PlainTexts.{is_plain, plain_is, plain_word, plain_decimal}
+use Rattle.automaton_text.specs.Laws.{is_word}
+use Rattle.automaton_text.proofs.ReadBack.{goes_behind, goes_on, one_more, word_small}
 
 -- ---- lists that go on from an element
-
-abbrev goes_on : {X : Type 0} → (X → X → Bool) → Option X → List X → Bool
-goes_on before o [] = true
-goes_on before o (x ∷ xs) = option_map_or (λ l. before l x) o true && goes_on before (Some x) xs
 
 goes_from : {X : Type 0} (before : X → X → Bool) (x : X) (xs : List X) → ascend before (x ∷ xs) ≡ true → goes_on before (Some x) xs ≡ true
 goes_from before x [] e = refl
@@ -64,12 +62,6 @@ goes_from before x (y ∷ ys) e =
 goes_from_none : {X : Type 0} (before : X → X → Bool) (xs : List X) → ascend before xs ≡ true → goes_on before None xs ≡ true
 goes_from_none before [] e = refl
 goes_from_none before (x ∷ xs) e = goes_from before x xs e
-
-goes_behind : {X : Type 0} (before : X → X → Bool) (done : List X) (x : X) (xs : List X) → goes_on before (Some x) xs ≡ true → goes_on before (last_of (done ++ x ∷ [])) xs ≡ true
-goes_behind before done x xs e = ap (λ o. goes_on before o xs) (last_of_more done x) ∙ e
-
-one_more : {X : Type 0} (done : List X) (x : X) (xs : List X) → (done ++ x ∷ []) ++ xs ≡ done ++ (x ∷ xs)
-one_more done x xs = append_assoc done (x ∷ []) xs
 
 -- ---- orders by spots
 

@@ -1,17 +1,17 @@
 -- What a table's text tells is a table of the image, and the text is that table's.
-use Rattle.std.proofs.Common.{◌≡◌, ℕ, suc, ◌+◌, ◌-◌, ◌<◌, ◌≤◌, ◌^◌, ◌==◌, Bool, true, false, List, [], ◌∷◌, ◌++◌, length, map, Option, None, Some, Ok, Err, refl, sym, ◌∙◌, ap, subst, arith, append_assoc, append-nil, decimal, pos}
-use Rattle.std.specs.Prelude.{All, Result, codes, flat_map, nat_le, nat_lt, ◌&&◌, option_and_then, slice_get, if◌then◌else◌}
+use Rattle.std.proofs.Common.{◌≡◌, ℕ, ◌+◌, ◌-◌, ◌<◌, ◌≤◌, ◌^◌, ◌==◌, Bool, true, false, List, [], ◌∷◌, ◌++◌, length, map, Option, None, Some, Ok, Err, refl, sym, ◌∙◌, ap, subst, arith, append_assoc, append-nil, decimal, pos}
+use Rattle.std.specs.Prelude.{All, Result, codes, flat_map, nat_le, nat_lt, ◌&&◌, option_and_then, if◌then◌else◌}
 use Rattle.std.specs.Option.{ForSome, option_map_or}
 use Rattle.std.specs.List.{join_with_byte, list_all}
 use Rattle.std.specs.Str.{bytes_eq}
 use Rattle.std.proofs.lemmas.Bool.Decides.{nat_tests}
-use Rattle.std.proofs.lemmas.Grind.{flat_map-append}
 use Rattle.std.proofs.lemmas.List.Folds.{list_all-append}
 use Rattle.std.proofs.lemmas.List.Splits.{join_with_byte-slice_split}
 use Rattle.std.proofs.lemmas.List.{length-append}
 use Rattle.std.proofs.lemmas.List.Elements.{All-nil, All-push, All-weaker}
 use Rattle.memory_map.specs.Image.{Image}
 use Rattle.memory_map.specs.declared.registers.Regs.{Regs}
+use Rattle.memory_map.specs.Ascending.{ascend}
 use Rattle.address_regions.specs.declared.region.Region.TheVariants.{Stack}
 use Rattle.text_fields.specs.Decimal.{decimal_is}
 use Rattle.text_fields.specs.Fields.{no_more, only_word}
@@ -29,7 +29,7 @@ use Rattle.partitioned_memory.specs.declared.fact.Fact.{Fact}
 use Rattle.partitioned_memory.specs.declared.fact.Dirty.{Dirty}
 use Rattle.partitioned_memory.specs.declared.fact.Counted.{Counted}
 use Rattle.partitioned_memory.specs.Areas.{interval_at}
-use Rattle.partitioned_memory.specs.Building.{ascend, is_block, is_sound_dirty, is_sound_fact}
+use Rattle.partitioned_memory.specs.Building.{is_block, is_sound_dirty, is_sound_fact}
 use Rattle.partitioned_memory.specs.Held.{count_before, dirty_before, fact_before}
 use Rattle.partitioned_memory.proofs.BuiltParts.{inside-of}
 use Rattle.abstract_state.specs.declared.truth.Truth.{Truth}
@@ -53,6 +53,8 @@ use Rattle.table_check.proofs.FieldsTold.{block_list, block_told, dirty_list, di
 use Rattle.std.proofs.lemmas.Bool.{and_parts, and_from}
 use Rattle.text_fields.proofs.Found.{if_ok, found_ok, same_ok, same_word}
 use Rattle.text_fields.proofs.LastOnes.{last_of_later}
+use Rattle.automaton_text.proofs.Ascending.{less}
+use Rattle.automaton_text.proofs.Told.{flat_map-last, lines_few}
 
 -- ---- what was told so far
 
@@ -116,9 +118,6 @@ pub record Adds (stage : Stage) (r t : TableSoFar) (line : List ℕ) : Type 0 wh
 
 unnoted : {note : Option Note} → note ≡ None → ForSome note IsWellNote
 unnoted is = subst (λ o. ForSome o IsWellNote) (sym is) no-note
-
-flat_map-last : {X : Type 0} (f : X → List ℕ) (xs : List X) (x : X) → flat_map f (xs ++ x ∷ []) ≡ flat_map f xs ++ f x
-flat_map-last f xs x = flat_map-append f xs (x ∷ []) ∙ ap (λ l. flat_map f xs ++ l) (append-nil (f x))
 
 -- a line by its first word and the fields behind it
 worded : (line word own : List ℕ) (fs gs : List (List ℕ)) → fields line ≡ word ∷ fs → bytes_eq word own ≡ true → fs ≡ gs → line ≡ own ++ spaced gs
@@ -250,15 +249,6 @@ pub record IsWhole (stage : Stage) (r u : TableSoFar) : Type 0 where
   pub rows : All (λ row. IsStateOf u.image row.1) u.rows
   pub made : are_made u.state ≡ true
 
--- a text has at least as many bytes as rows
-lines_few : {X : Type 0} (f : X → List ℕ) → ((x : X) → 0 < length (f x)) → (xs : List X) → length xs ≤ length (flat_map f xs)
-lines_few f some [] = omega arith
-lines_few f some (x ∷ xs) =
-    let here = some x in
-    let others = lines_few f some xs in
-    let whole : length (f x ++ flat_map f xs) ≡ length (f x) + length (flat_map f xs) = length-append (f x) (flat_map f xs) in
-    omega arith
-
 some_row : (row : ℕ × Known Bounded) → 0 < length (row_text row)
 some_row row =
     let whole : length (row_line row.0 ++ state_text (plain_of row.1)) ≡ length (row_line row.0) + length (state_text (plain_of row.1)) = length-append (row_line row.0) (state_text (plain_of row.1)) in
@@ -287,9 +277,6 @@ row_by stage r u t line word fs w parts is h =
       text = λ _. ap (λ l. l ++ row_line f.0) w.text ∙ ap (λ l. said_at stage r ++ l) (sym whole);
       image = w.image;
     })
-
-below : (a b : ℕ) → nat_lt a b ≡ true → a < b
-below a b e = grind (arith, nat_tests)
 
 count_told : (r : TableSoFar) (fs : List (List ℕ)) → length r.rows < 2 ^ 64 → count_fields r fs ≡ Some true → fs ≡ decimal (length r.rows) ∷ []
 unfolding count_fields
@@ -419,7 +406,7 @@ made_more s f made own =
     and_from (list_all is_made s.regs) (list_all is_value (s.facts ++ f ∷ [])) h.0 facts
 
 note_of : (n : Note) → is_well_note n ≡ true → compared_with n < 2 ^ 32 → IsWellNote n
-note_of (Register r c) e small = (below r 8 e, small)
+note_of (Register r c) e small = (less r 8 e, small)
 note_of (Word o c) e small = (inside-of (interval_at (In Stack) o (pos 4)) e, small)
 
 now_noted : (n : Note) → IsWellNote n → ForSome (Some n) IsWellNote

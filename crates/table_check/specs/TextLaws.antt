@@ -5,6 +5,7 @@ use Rattle.std.specs.Option.{option_map_or}
 use Rattle.bit_words.specs.Width.{is_signed}
 use Rattle.bit_words.specs.declared.width.Width.TheVariants.{B32}
 use Rattle.memory_map.specs.Image.{Image, IsLoaded}
+use Rattle.memory_map.specs.Ascending.{ascend}
 use Rattle.address_regions.specs.declared.region.Region.{Region}
 use Rattle.address_regions.specs.declared.region.Region.TheVariants.{Block}
 use Rattle.address_regions.specs.Extents.{has_room}
@@ -16,12 +17,12 @@ use Rattle.partitioned_memory.specs.declared.area.Area.TheVariants as areas
 use Rattle.partitioned_memory.specs.declared.fact.Fact.{Fact}
 use Rattle.partitioned_memory.specs.declared.fact.Dirty.{Dirty}
 use Rattle.partitioned_memory.specs.declared.fact.Counted.{Counted}
-use Rattle.partitioned_memory.specs.Building.{ascend}
 use Rattle.abstract_state.specs.declared.note.Note.{Note}
 use Rattle.abstract_state.specs.declared.note.Note.TheVariants.{Register, Word}
 use Rattle.abstract_state.specs.declared.plain.StateData.{StateData}
 use Rattle.abstract_state.specs.State.{IsWellState, Known}
 use Rattle.abstract_state.specs.Building.{HasImageBytes, plain_of}
+use Rattle.automaton_text.specs.Laws.{is_word}
 use Rattle.table_check.specs.declared.table.Table.{Table}
 use Rattle.table_check.specs.Reading.{table_read}
 use Rattle.table_check.specs.Text.{table_text}
@@ -57,9 +58,6 @@ abbrev pub TextsTellTables : Type 0
 TextsTellTables = (image : Image) (text : List ℕ) (t : Table Bounded) → length text < 2 ^ 64 → table_read image text ≡ Ok t → IsTableOf image t × (table_text t ≡ text)
 
 -- ---- what the types of a table's parts hold of them
-
-abbrev pub is_word : ℕ → Bool
-is_word n = nat_lt n (2 ^ 32)
 
 abbrev pub fits_region : Region → Bool
 fits_region (Block site size zeroed) = is_word site && is_word size

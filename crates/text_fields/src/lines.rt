@@ -9,7 +9,8 @@ use std::alloc::Global;
 pub trait LineReader {
     ghost grammar: { Grammar Self };
 
-    /// Takes in the next line, which is given without its 0A.
+    /// Takes in the next line, which is given without its 0A; refuses it exactly where the grammar does, with the kind of
+    /// that fault, or for want of memory.
     fn read_line(&mut self, alloc: Global, line: &[u8]) -> Result<(), LineRefusal>
         requires { grammar.is_ended self.old ≡ false }
         ensures { MatchResult result (λ _. grammar.step self.old line.now ≡ Ok self.new) (λ e. IsRefusalOf (grammar.step self.old line.now) e) };

@@ -24,7 +24,7 @@ fn digit_number(c: u8) -> Option<u8>
 }
 
 // The number that at most eight upper-case digits write.
-fn number_of(text: &[u8]) -> Option<u32>
+fn parse_hex(text: &[u8]) -> Option<u32>
     requires { length text.now ≤ 8 }
     ensures value { result ≡ number_after 0 text.now }
     ensures within { IfSome result (λ n. n < 16 ^ length text.now) }
@@ -45,7 +45,7 @@ pub fn parse_hex2(text: &[u8]) -> Option<u8>
     if text.len() != 2 {
         return None;
     }
-    match number_of(text) {
+    match parse_hex(text) {
         Some(b) => Some(b as u8),
         None => None,
     }
@@ -59,7 +59,7 @@ pub fn parse_hex8(text: &[u8]) -> Option<u32>
     if text.len() != 8 {
         return None;
     }
-    number_of(text)
+    parse_hex(text)
 }
 
 /// The word that exactly eight hexadecimal digits write, of either case each; None for any other text.

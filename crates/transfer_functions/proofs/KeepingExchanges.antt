@@ -8,6 +8,7 @@ use Rattle.bit_words.specs.Width.{bits_of}
 use Rattle.domain_laws.specs.Laws.{Values, IsLawful}
 use Rattle.memory_map.specs.Image.{Image}
 use Rattle.memory_map.specs.Range.{HasBytes}
+use Rattle.memory_map.specs.declared.registers.TheConstants.{EAX}
 use Rattle.partitioned_memory.specs.declared.fact.Counted.{Counted}
 use Rattle.partitioned_memory.specs.Well.{MayHold}
 use Rattle.partitioned_memory.proofs.Holding.{any-holds, number-holds}
@@ -17,7 +18,6 @@ use Rattle.x86_semantics.specs.declared.flag_rule.FlagRule.TheVariants.{BitTest,
 use Rattle.x86_semantics.specs.declared.operation.BitChange.{BitChange}
 use Rattle.x86_semantics.specs.declared.operation.BitChange.TheVariants.{KeepBit, SetBit, ClearBit, FlipBit}
 use Rattle.x86_semantics.specs.Exchanges.{is_register_numbered}
-use Rattle.x86_semantics.specs.Registers.{EAX}
 use Rattle.x86_semantics.specs.Widths.{has_place, has_width, is_bit_index}
 use Rattle.abstract_state.specs.declared.truth.Truth.{Truth}
 use Rattle.abstract_state.specs.declared.truth.Truth.TheVariants.{Yes, No, Unknown}

@@ -12,6 +12,7 @@ use Rattle.bit_words.proofs.Laws.{apply-lt}
 use Rattle.domain_laws.specs.Laws.{Values, IsLawful}
 use Rattle.memory_map.specs.Image.{Image}
 use Rattle.memory_map.specs.Range.{HasBytes}
+use Rattle.memory_map.specs.declared.registers.TheConstants.{EAX, ECX, ESP, EBP, ESI, EDI}
 use Rattle.partitioned_memory.specs.declared.fact.Counted.{Counted}
 use Rattle.partitioned_memory.specs.Well.{FitsWidth, MayHold}
 use Rattle.partitioned_memory.proofs.Holding.{any-holds, number-holds}
@@ -22,11 +23,11 @@ use Rattle.x86_syntax.specs.declared.instr.Operand.TheVariants.{Register, Number
 use Rattle.x86_syntax.specs.declared.instr.Seg.{Seg}
 use Rattle.x86_syntax.specs.declared.instr.Repeat.{Repeat}
 use Rattle.x86_syntax.specs.declared.instr.Repeat.TheVariants.{Once, Rep, Repe, Repne}
+use Rattle.x86_syntax.specs.Text.{next_address}
 use Rattle.x86_semantics.specs.declared.operation.Looping.{Looping}
 use Rattle.x86_semantics.specs.declared.operation.StringKind.{StringKind}
 use Rattle.x86_semantics.specs.declared.operation.StringKind.TheVariants.{Move, Compare, Store, Load, Scan}
-use Rattle.x86_semantics.specs.Operands.{branch_target, next_address}
-use Rattle.x86_semantics.specs.Registers.{EAX, EBP, ECX, EDI, ESI, ESP}
+use Rattle.x86_semantics.specs.Operands.{branch_target}
 use Rattle.x86_semantics.specs.Widths.{fits_width, has_place, has_width, is_place, is_register, is_target, is_value, is_width, is_within, width_of}
 use Rattle.flow_log.specs.declared.cause.Cause.{Cause}
 use Rattle.flow_log.specs.declared.cause.Cause.TheVariants.{Target}

@@ -16,6 +16,7 @@ use Rattle.domain_laws.specs.declared.reach.Reach.{Reach}
 use Rattle.domain_laws.specs.declared.reach.Reach.TheVariants as reaches
 use Rattle.domain_laws.specs.Laws.{Values, IsLawful}
 use Rattle.memory_map.specs.Image.{Image}
+use Rattle.memory_map.specs.declared.registers.TheConstants.{EAX}
 use Rattle.partitioned_memory.specs.declared.fact.Counted.{Counted}
 use Rattle.partitioned_memory.specs.Well.{MayHold}
 use Rattle.partitioned_memory.proofs.Holding.{any-holds, number-holds}
@@ -26,8 +27,9 @@ use Rattle.x86_semantics.specs.declared.flag_rule.FlagRule.TheVariants.{SignedPr
 use Rattle.x86_semantics.specs.declared.operation.FlagChange.{FlagChange}
 use Rattle.x86_semantics.specs.declared.operation.FlagChange.TheVariants.{FlipCarry, ClearCarry, SetCarry, ClearDirection, SetDirection}
 use Rattle.x86_semantics.specs.Bits.{status_byte}
-use Rattle.x86_semantics.specs.Registers.{AH, EAX, upper_register}
+use Rattle.x86_semantics.specs.Registers.{upper_register}
 use Rattle.x86_semantics.specs.Widths.{has_place, has_width, is_count, is_place, is_value, is_width, width_of}
+use Rattle.x86_semantics.specs.declared.parts.TheConstants.{AH}
 use Rattle.abstract_state.specs.declared.note.Note.{Note}
 use Rattle.abstract_state.specs.declared.note.Note.TheVariants as notes
 use Rattle.abstract_state.specs.declared.truth.Truth.{Truth}

@@ -25,8 +25,7 @@ use Rattle.address_regions.specs.Places.{Places, place_at}
 use Rattle.partitioned_memory.specs.declared.area.Area.TheVariants.{In}
 use Rattle.partitioned_memory.specs.Areas.{IsInside, interval_at}
 use Rattle.partitioned_memory.specs.Describes.{number_in}
-use Rattle.partitioned_memory.proofs.CallsKept.{int_eq-true}
-use Rattle.partitioned_memory.proofs.Orders.{int_le-true}
+use Rattle.partitioned_memory.proofs.Orders.{int_le-true, int_eq-true}
 use Rattle.memory_map.specs.Range.{HasBytes, IsInUserSpace}
 use Rattle.memory_map.proofs.Mappings.{mapped_inside}
 use Rattle.x86_semantics.proofs.Storing.{number_from, word-loaded}

@@ -14,7 +14,8 @@ use Rattle.x86_semantics.specs.declared.operation.FlagChange.TheVariants.{FlipCa
 use Rattle.x86_semantics.specs.Bits.{change_flag as change_flag_of, load_status as load_status_of, status_byte, store_status as store_status_of}
 use Rattle.x86_semantics.specs.FlagRules.{ruled}
 use Rattle.x86_semantics.specs.Operands.{with_flags as with_flags_of}
-use Rattle.x86_semantics.specs.Registers.{AH, part as part_of}
+use Rattle.x86_semantics.specs.Registers.{part as part_of}
+use Rattle.x86_semantics.specs.declared.parts.TheConstants.{AH}
 use Rattle.abstract_state.specs.declared.note.Note.{Note}
 use Rattle.abstract_state.specs.declared.note.Note.TheVariants as notes
 use Rattle.abstract_state.specs.declared.truth.Truth.{Truth}

@@ -9,6 +9,7 @@ use Rattle.domain_laws.specs.Laws.{Values, IsLawful}
 use Rattle.memory_map.specs.declared.choice.Choice.{Choice}
 use Rattle.memory_map.specs.Image.{Image}
 use Rattle.memory_map.specs.State.{MachineState}
+use Rattle.memory_map.specs.declared.registers.TheConstants.{EAX}
 use Rattle.partitioned_memory.specs.declared.fact.Counted.{Counted}
 use Rattle.x86_syntax.specs.declared.instr.Operand.{Operand}
 use Rattle.x86_syntax.specs.declared.instr.Operand.TheVariants.{Register, Number, Memory, Offset}
@@ -16,7 +17,7 @@ use Rattle.x86_semantics.specs.declared.flag_rule.FlagRule.TheVariants.{Sum, Dif
 use Rattle.x86_semantics.specs.Arithmetic.{flagged as flagged_of}
 use Rattle.x86_semantics.specs.Exchanges.{are_equal, compare_exchange as compare_exchange_of, exchange_add as exchange_add_of, is_register_numbered, with_accumulator_unless}
 use Rattle.x86_semantics.specs.Operands.{Ended, writing as writing_of}
-use Rattle.x86_semantics.specs.Registers.{EAX, part as part_of, with_part as with_part_of}
+use Rattle.x86_semantics.specs.Registers.{part as part_of, with_part as with_part_of}
 use Rattle.x86_semantics.specs.Widths.{has_place, is_place, is_width, width_of}
 use Rattle.abstract_state.specs.Expanding.{Path}
 use Rattle.abstract_state.specs.Truth.{StandsFor}

@@ -9,16 +9,17 @@ use Rattle.bit_words.specs.declared.op.Op.TheVariants.{Eq}
 use Rattle.domain_laws.specs.Laws.{Values, IsLawful}
 use Rattle.memory_map.specs.Image.{Image}
 use Rattle.memory_map.specs.State.{Flags, MachineState}
+use Rattle.memory_map.specs.declared.registers.TheConstants.{ECX, ESP}
 use Rattle.partitioned_memory.specs.declared.fact.Counted.{Counted}
 use Rattle.x86_syntax.specs.declared.instr.Cond.{Cond}
 use Rattle.x86_syntax.specs.declared.instr.Operand.{Operand}
 use Rattle.x86_syntax.specs.declared.instr.Operand.TheVariants.{Register, Number, Memory, Offset}
+use Rattle.x86_syntax.specs.Text.{next_address}
 use Rattle.x86_semantics.specs.Condition.{is_met, tests}
 use Rattle.x86_semantics.specs.declared.operation.Looping.{Looping}
 use Rattle.x86_semantics.specs.declared.operation.Looping.TheVariants.{Counted as CountedLoop, Equal, NotEqual}
 use Rattle.x86_semantics.specs.Flow.{call as call_of, counting_down as counting_down_of, goto as goto_of, jump as jump_of, jump_if_no_count as jump_if_no_count_of, loop as loop_of, meets_zero as meets_zero_of, return as return_of, targeting as targeting_of}
-use Rattle.x86_semantics.specs.Operands.{Ended, Next, at_address, branch_target, next_address, reading as reading_of}
-use Rattle.x86_semantics.specs.Registers.{ECX, ESP}
+use Rattle.x86_semantics.specs.Operands.{Ended, Next, at_address, branch_target, reading as reading_of}
 use Rattle.x86_semantics.specs.Widths.{has_width, is_target}
 use Rattle.flow_log.proofs.Members.{Contains-here}
 use Rattle.abstract_state.specs.declared.truth.Truth.TheVariants.{Yes, No, Unknown}

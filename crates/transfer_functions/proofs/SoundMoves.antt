@@ -14,6 +14,7 @@ use Rattle.memory_map.specs.Image.{Image}
 use Rattle.memory_map.specs.Registers as regs
 use Rattle.memory_map.specs.State.{MachineState, memory}
 use Rattle.memory_map.specs.declared.registers.Regs.{Regs}
+use Rattle.memory_map.specs.declared.registers.TheConstants.{ESP, EBP}
 use Rattle.partitioned_memory.specs.declared.fact.Counted.{Counted}
 use Rattle.x86_syntax.specs.declared.instr.Address.{Address}
 use Rattle.x86_syntax.specs.declared.instr.Cond.{Cond}
@@ -23,7 +24,7 @@ use Rattle.x86_semantics.specs.Condition.{is_met}
 use Rattle.x86_semantics.specs.Memory.{may_write_all, next_byte, stored, with_byte, with_number}
 use Rattle.x86_semantics.specs.Moves.{above as above_of, below as below_of, convert as convert_of, exchange as exchange_of, lea as lea_of, leave as leave_of, move as move_of, move_if as move_if_of, pop as pop_of, pop_into as pop_into_of, popped as popped_of, push as push_of, pushing as pushing_of, set as set_of}
 use Rattle.x86_semantics.specs.Operands.{Ended, Next, address_of, at_address, reading as reading_of, writing as writing_of, on_stored, storing as storing_of}
-use Rattle.x86_semantics.specs.Registers.{ESP, EBP, register as register_of, with_register as with_register_of}
+use Rattle.x86_semantics.specs.Registers.{register as register_of, with_register as with_register_of}
 use Rattle.x86_semantics.specs.Widths.{has_place, has_width, fits_width, is_place, is_register, is_value, is_width, is_within, width_of}
 use Rattle.abstract_state.specs.declared.truth.Truth.{Truth}
 use Rattle.abstract_state.specs.declared.truth.Truth.TheVariants.{Yes, No, Unknown}

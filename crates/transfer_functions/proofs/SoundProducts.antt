@@ -15,6 +15,7 @@ use Rattle.domain_laws.specs.Laws.{Values, IsLawful}
 use Rattle.memory_map.specs.declared.choice.Choice.{Choice}
 use Rattle.memory_map.specs.Image.{Image}
 use Rattle.memory_map.specs.State.{MachineState, Flags}
+use Rattle.memory_map.specs.declared.registers.TheConstants.{EAX}
 use Rattle.partitioned_memory.specs.declared.fact.Counted.{Counted}
 use Rattle.x86_syntax.specs.declared.instr.Operand.{Operand}
 use Rattle.x86_semantics.specs.declared.flag_rule.FlagRule.{FlagRule}
@@ -23,7 +24,7 @@ use Rattle.x86_semantics.specs.Arithmetic.{flagged as flagged_of}
 use Rattle.x86_semantics.specs.FlagRules.{flags_after, freed, status_flags}
 use Rattle.x86_semantics.specs.Operands.{Ended, Next, at_address, with_flags as with_flags_of}
 use Rattle.x86_semantics.specs.Products.{divide as divide_of, divided as divided_of, multiply as multiply_of, multiply_long as multiply_long_of, on_divided, with_long as with_long_of}
-use Rattle.x86_semantics.specs.Registers.{EAX, part as part_of, upper_register}
+use Rattle.x86_semantics.specs.Registers.{part as part_of, upper_register}
 use Rattle.x86_semantics.specs.Widths.{has_width, is_value, is_width, width_of}
 use Rattle.abstract_state.specs.declared.flags.Truths.{Truths}
 use Rattle.abstract_state.specs.Expanding.{Path, ended}

@@ -10,6 +10,7 @@ use Rattle.domain_laws.specs.Laws.{Values, IsLawful}
 use Rattle.memory_map.specs.declared.choice.Choice.{Choice}
 use Rattle.memory_map.specs.Image.{Image}
 use Rattle.memory_map.specs.State.{Flags, MachineState}
+use Rattle.memory_map.specs.declared.registers.TheConstants.{EAX, ECX, ESI, EDI}
 use Rattle.partitioned_memory.specs.declared.fact.Counted.{Counted}
 use Rattle.x86_syntax.specs.declared.instr.Seg.{Seg}
 use Rattle.x86_syntax.specs.declared.instr.Repeat.{Repeat}
@@ -19,7 +20,7 @@ use Rattle.x86_semantics.specs.declared.operation.StringKind.{StringKind}
 use Rattle.x86_semantics.specs.declared.operation.StringKind.TheVariants.{Move, Compare, Store, Load, Scan}
 use Rattle.x86_semantics.specs.FlagRules.{flags_after}
 use Rattle.x86_semantics.specs.Operands.{Ended, Next, at_address, segment_base}
-use Rattle.x86_semantics.specs.Registers.{EAX, ECX, EDI, ESI, register as register_of}
+use Rattle.x86_semantics.specs.Registers.{register as register_of}
 use Rattle.x86_semantics.specs.Strings.{compared as compared_of, counted as counted_of, element as element_of, ends_by as ends_by_of, moved as moved_of, repeated as repeated_of, source_address, step_of, string as string_of}
 use Rattle.abstract_state.specs.declared.truth.Truth.{Truth}
 use Rattle.abstract_state.specs.declared.truth.Truth.TheVariants.{Yes, No, Unknown}

@@ -7,8 +7,8 @@ use Rattle.domain_laws.specs.Laws.{Values}
 use Rattle.x86_semantics.specs.declared.flag_rule.FlagRule.TheVariants.{Status}
 use Rattle.x86_semantics.specs.declared.operation.FlagChange.{FlagChange}
 use Rattle.x86_semantics.specs.declared.operation.FlagChange.TheVariants.{FlipCarry, ClearCarry, SetCarry, ClearDirection, SetDirection}
-use Rattle.x86_semantics.specs.Registers.{AH}
 use Rattle.x86_semantics.specs.Bits.{status_byte}
+use Rattle.x86_semantics.specs.declared.parts.TheConstants.{AH}
 use Rattle.abstract_state.specs.declared.truth.Truth.{Truth}
 use Rattle.abstract_state.specs.declared.truth.Truth.TheVariants.{Yes, No, Unknown}
 use Rattle.abstract_state.specs.declared.flags.Truths.{Truths}

@@ -3,11 +3,11 @@ use Rattle.std.specs.Prelude.{ℕ, if◌then◌else◌}
 use Rattle.bit_words.specs.declared.width.Width.{Width}
 use Rattle.bit_words.specs.declared.op.Op.TheVariants.{Add, Sub, Eq}
 use Rattle.memory_map.specs.Image.{Image}
+use Rattle.memory_map.specs.declared.registers.TheConstants.{EAX}
 use Rattle.domain_laws.specs.Laws.{Values}
 use Rattle.x86_syntax.specs.declared.instr.Operand.{Operand}
 use Rattle.x86_syntax.specs.declared.instr.Operand.TheVariants.{Memory}
 use Rattle.x86_semantics.specs.declared.flag_rule.FlagRule.TheVariants.{Sum, Difference}
-use Rattle.x86_semantics.specs.Registers.{EAX}
 use Rattle.x86_semantics.specs.Exchanges.{is_register_numbered}
 use Rattle.abstract_state.specs.Expanding.{Expanded, Path}
 use Rattle.transfer_functions.specs.Values.{either_way, on_state, part, with_part, reading, writing}

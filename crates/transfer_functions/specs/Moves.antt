@@ -4,11 +4,11 @@ use Rattle.bit_words.specs.declared.width.Width.{Width}
 use Rattle.bit_words.specs.declared.width.Width.TheVariants.{B32}
 use Rattle.bit_words.specs.declared.op.Op.{Op}
 use Rattle.memory_map.specs.Image.{Image}
+use Rattle.memory_map.specs.declared.registers.TheConstants.{ESP, EBP}
 use Rattle.domain_laws.specs.Laws.{Values}
 use Rattle.x86_syntax.specs.declared.instr.Address.{Address}
 use Rattle.x86_syntax.specs.declared.instr.Cond.{Cond}
 use Rattle.x86_syntax.specs.declared.instr.Operand.{Operand}
-use Rattle.x86_semantics.specs.Registers.{ESP, EBP}
 use Rattle.abstract_state.specs.Flags.{truth_met}
 use Rattle.abstract_state.specs.State.{Known}
 use Rattle.abstract_state.specs.Expanding.{Expanded, Path, lands}

@@ -3,9 +3,9 @@ use Rattle.std.specs.Prelude.{ℕ}
 use Rattle.memory_map.specs.Image.{Image}
 use Rattle.domain_laws.specs.Laws.{Values}
 use Rattle.x86_syntax.specs.declared.instr.Instr.{Instr}
+use Rattle.x86_syntax.specs.Text.{next_address}
 use Rattle.x86_semantics.specs.declared.operation.Operation.{Operation}
 use Rattle.x86_semantics.specs.declared.operation.Operation.TheVariants.{Combine, Carry, Compare, Move, Convert, Lea, Exchange, Shift, MultiplyLong, Multiply, Divide, Jump, Goto, Loop, JumpIfNoCount, Call, Return, Push, Pop, Leave, Set, MoveIf, Flag, LoadStatus, StoreStatus, Element, Nothing, Stop, DoubleShift, TestBit, FindBit, CompareExchange, ExchangeAdd}
-use Rattle.x86_semantics.specs.Operands.{next_address}
 use Rattle.x86_semantics.specs.Operations.{operation_of}
 use Rattle.abstract_state.specs.State.{Known}
 use Rattle.abstract_state.specs.Expanding.{Expanded, Path, ended, lands, starts}

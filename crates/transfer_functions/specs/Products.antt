@@ -6,11 +6,12 @@ use Rattle.bit_words.specs.declared.op.Op.TheVariants.{Mul}
 use Rattle.bit_words.specs.Width.{bits_of, cut, signed_of, is_signed, word_of}
 use Rattle.bit_words.specs.Operators.{apply_op}
 use Rattle.memory_map.specs.Image.{Image}
+use Rattle.memory_map.specs.declared.registers.TheConstants.{EAX}
 use Rattle.domain_laws.specs.Laws.{Values}
 use Rattle.x86_syntax.specs.declared.instr.Operand.{Operand}
 use Rattle.x86_semantics.specs.declared.flag_rule.FlagRule.{FlagRule}
 use Rattle.x86_semantics.specs.declared.flag_rule.FlagRule.TheVariants.{SignedProduct}
-use Rattle.x86_semantics.specs.Registers.{EAX, upper_register}
+use Rattle.x86_semantics.specs.Registers.{upper_register}
 use Rattle.abstract_state.specs.Flags.{unknown_flags}
 use Rattle.abstract_state.specs.State.{Known, with_flags}
 use Rattle.abstract_state.specs.Expanding.{Expanded, Path, ended, lands}

@@ -4,6 +4,7 @@ use Rattle.bit_words.specs.declared.width.Width.{Width}
 use Rattle.bit_words.specs.declared.op.Op.TheVariants.{Sub}
 use Rattle.bit_words.specs.Width.{bytes_of}
 use Rattle.memory_map.specs.Image.{Image}
+use Rattle.memory_map.specs.declared.registers.TheConstants.{EAX, ECX, ESI, EDI}
 use Rattle.domain_laws.specs.Laws.{Values}
 use Rattle.x86_syntax.specs.declared.instr.Seg.{Seg}
 use Rattle.x86_syntax.specs.declared.instr.Repeat.{Repeat}
@@ -11,7 +12,6 @@ use Rattle.x86_syntax.specs.declared.instr.Repeat.TheVariants.{Once, Repe, Repne
 use Rattle.x86_semantics.specs.declared.flag_rule.FlagRule.TheVariants.{Difference}
 use Rattle.x86_semantics.specs.declared.operation.StringKind.{StringKind}
 use Rattle.x86_semantics.specs.declared.operation.StringKind.TheVariants.{Move, Compare, Store, Load, Scan}
-use Rattle.x86_semantics.specs.Registers.{EAX, ECX, ESI, EDI}
 use Rattle.abstract_state.specs.declared.truth.Truth.{Truth}
 use Rattle.abstract_state.specs.declared.truth.Truth.TheVariants.{Yes, No, Unknown}
 use Rattle.abstract_state.specs.declared.flags.Truths.{Truths}

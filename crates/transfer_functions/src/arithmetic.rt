@@ -6,7 +6,7 @@ ghost use Rattle.bit_words.specs.declared.width.Width.{Width};
 ghost use Rattle.partitioned_memory.specs.declared.fact.Counted.{Counted};
 ghost use Rattle.partitioned_memory.specs.Areas.{IsInside, interval_at};
 ghost use Rattle.partitioned_memory.specs.Well.{MayHold};
-ghost use Rattle.x86_semantics.specs.Operands.{next_address};
+ghost use Rattle.x86_syntax.specs.Text.{next_address};
 ghost use Rattle.x86_semantics.specs.Widths.{has_own_widths, has_place, width_of};
 ghost use Rattle.abstract_state.specs.Notes.{IsWellNote};
 ghost use Rattle.transfer_functions.specs.Values.{MayWrite};

@@ -4,7 +4,7 @@ ghost use Rattle.bit_words.specs.declared.width.Width.TheVariants.{B32};
 ghost use Rattle.domain_laws.specs.Made.{values_of};
 ghost use Rattle.partitioned_memory.specs.declared.fact.Counted.{Counted};
 ghost use Rattle.partitioned_memory.specs.Well.{MayHold};
-ghost use Rattle.x86_semantics.specs.Operands.{next_address};
+ghost use Rattle.x86_syntax.specs.Text.{next_address};
 ghost use Rattle.transfer_functions.specs.BitTests.{bit_changed, bit_value, find_bit, found_bit, test_bit, with_bit};
 
 use crate::flags::by_operator;

@@ -5,7 +5,7 @@ ghost use Rattle.partitioned_memory.specs.Well.{MayHold};
 ghost use Rattle.bit_words.specs.Operators.{one_if};
 ghost use Rattle.domain_laws.specs.Made.{values_of};
 ghost use Rattle.x86_semantics.specs.Bits.{status_byte};
-ghost use Rattle.x86_semantics.specs.Operands.{next_address};
+ghost use Rattle.x86_syntax.specs.Text.{next_address};
 ghost use Rattle.transfer_functions.specs.Bits.{change_flag, changed, flags_set, has_status, is_known, is_yes, load_status, status_value, store_status, with_carry};
 
 use crate::arithmetic::set_ruled;
@@ -14,9 +14,7 @@ use crate::values::{anything, number, part, set_part};
 use abstract_state::{Expansion, Path, State, Truth, Truths};
 use bit_words::{NoMemory, Width};
 use domain_laws::Domain;
-use x86_semantics::{FlagChange, FlagRule};
-
-const AH: u8 = 4;
+use x86_semantics::{AH, FlagChange, FlagRule};
 
 fn is_known(t: Truth) -> bool
     ensures { result ≡ is_known t }

@@ -3,18 +3,19 @@ ghost use Rattle.bit_words.specs.declared.width.Width.TheVariants.{B32};
 ghost use Rattle.domain_laws.specs.Made.{values_of};
 ghost use Rattle.partitioned_memory.specs.Well.{MayHold};
 ghost use Rattle.x86_semantics.specs.Exchanges.{is_register_numbered};
-ghost use Rattle.x86_semantics.specs.Operands.{next_address};
+ghost use Rattle.x86_syntax.specs.Text.{next_address};
 ghost use Rattle.x86_semantics.specs.Widths.{has_own_widths, has_place};
 ghost use Rattle.abstract_state.specs.Expanding.{joined};
 ghost use Rattle.transfer_functions.specs.Exchanges.{compare_exchange, compared_to, exchange_add, exchanged, not_exchanged, taken};
 
 use crate::flags::by_operator;
-use crate::products::{EAX, accumulator};
+use crate::products::accumulator;
 use crate::site::Site;
 use crate::values::{eval, part, set_part};
 use abstract_state::{Expansion, Path, Stored, Truth};
 use bit_words::{NoMemory, Op, Width};
 use domain_laws::Domain;
+use memory_map::EAX;
 use x86_semantics::{FlagRule, Operation};
 use x86_syntax::Operand;
 

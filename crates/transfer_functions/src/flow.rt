@@ -2,8 +2,9 @@ ghost use Rattle.std.specs.Prelude.{◌≡◌, IfOk, map};
 ghost use Rattle.bit_words.specs.declared.width.Width.TheVariants.{B32};
 ghost use Rattle.domain_laws.specs.Made.{values_of};
 ghost use Rattle.partitioned_memory.specs.Well.{MayHold};
-ghost use Rattle.x86_semantics.specs.Operands.{branch_target, next_address};
-ghost use Rattle.x86_semantics.specs.Registers.{ECX};
+ghost use Rattle.x86_syntax.specs.Text.{next_address};
+ghost use Rattle.x86_semantics.specs.Operands.{branch_target};
+ghost use Rattle.memory_map.specs.declared.registers.TheConstants.{ECX};
 ghost use Rattle.abstract_state.specs.Expanding.{starts};
 ghost use Rattle.transfer_functions.specs.Values.{branched, is_zero, register_value, with_register};
 ghost use Rattle.transfer_functions.specs.Flow.{call, goto, jump, jump_if_no_count, landing, lands_each, loop, meets_zero, negated, one_less, return, states_where};
@@ -18,11 +19,10 @@ use abstract_state::{Expansion, Path, State, Truth, Truths};
 use bit_words::{NoMemory, Width};
 use domain_laws::Domain;
 use flow_log::Cause;
+use memory_map::ECX;
 use std::alloc::Global;
 use x86_semantics::Looping;
 use x86_syntax::{Cond, Operand};
-
-const ECX: u8 = 1;
 
 // At a known address, or with the cause that it is not known.
 fn landing<D: Domain>(target: Option<u32>, p: Path<D>) -> Result<Expansion<D>, NoMemory>

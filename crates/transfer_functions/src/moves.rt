@@ -2,8 +2,8 @@ ghost use Rattle.std.specs.Prelude.{◌≡◌, IfOk, true};
 ghost use Rattle.bit_words.specs.declared.width.Width.TheVariants.{B32};
 ghost use Rattle.domain_laws.specs.Made.{values_of};
 ghost use Rattle.partitioned_memory.specs.Well.{MayHold};
-ghost use Rattle.x86_semantics.specs.Operands.{next_address};
-ghost use Rattle.x86_semantics.specs.Registers.{ESP};
+ghost use Rattle.x86_syntax.specs.Text.{next_address};
+ghost use Rattle.memory_map.specs.declared.registers.TheConstants.{ESP};
 ghost use Rattle.x86_semantics.specs.Widths.{has_own_widths};
 ghost use Rattle.abstract_state.specs.Expanding.{joined, lands};
 ghost use Rattle.transfer_functions.specs.Following.{followed};
@@ -19,12 +19,9 @@ use crate::values::{
 use abstract_state::{Expansion, Path, State, Stored, Truth};
 use bit_words::{NoMemory, Op, Width};
 use domain_laws::Domain;
+use memory_map::{EBP, ESP};
 use x86_semantics::Operation;
 use x86_syntax::{Address, Cond, Operand};
-
-const ESP: u8 = 4;
-
-const EBP: u8 = 5;
 
 /// The stack pointer.
 pub(crate) fn stack_pointer<D: Domain>(s: &State<D>) -> D

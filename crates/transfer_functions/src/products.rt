@@ -4,7 +4,7 @@ ghost use Rattle.partitioned_memory.specs.declared.fact.Counted.{Counted};
 ghost use Rattle.partitioned_memory.specs.Well.{MayHold};
 ghost use Rattle.bit_words.specs.declared.width.Width.TheVariants.{B32};
 ghost use Rattle.bit_words.specs.Width.{bits_of, cut, is_signed, word_of};
-ghost use Rattle.x86_semantics.specs.Operands.{next_address};
+ghost use Rattle.x86_syntax.specs.Text.{next_address};
 ghost use Rattle.transfer_functions.specs.Products.{accumulator, divide, divide_known, divided, exact, multiply, multiply_long, product, quotients, quotients_signed, quotients_unsigned, upper_half, with_long};
 
 use crate::site::Site;
@@ -12,11 +12,9 @@ use crate::values::{anything, number, part, set_part};
 use abstract_state::{Expansion, Path, State, Truths};
 use bit_words::{NoMemory, Op, Width, apply};
 use domain_laws::Domain;
+use memory_map::EAX;
 use x86_semantics::{FlagRule, upper_register};
 use x86_syntax::Operand;
-
-/// The register of the accumulator.
-pub(crate) const EAX: u8 = 0;
 
 // Quotient and remainder, where the quotient fits.
 fn quotients_unsigned(w: Width, x: u64, y: u64) -> Option<(u32, u32)>

@@ -4,7 +4,7 @@ ghost use Rattle.bit_words.specs.declared.width.Width.{Width};
 ghost use Rattle.partitioned_memory.specs.declared.fact.Counted.{Counted};
 ghost use Rattle.domain_laws.specs.Made.{values_of};
 ghost use Rattle.partitioned_memory.specs.Well.{MayHold};
-ghost use Rattle.x86_semantics.specs.Operands.{next_address};
+ghost use Rattle.x86_syntax.specs.Text.{next_address};
 ghost use Rattle.x86_semantics.specs.Widths.{has_own_widths, has_place, width_of};
 ghost use Rattle.transfer_functions.specs.Shifts.{double_shift, double_shift_by, double_shifted, double_truths, is_below, is_no_shift, or_of_shifts, shift, shift_by, shifted, unshifted};
 

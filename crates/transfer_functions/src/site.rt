@@ -1,5 +1,6 @@
 ghost use Rattle.std.specs.Prelude.{◌≡◌};
-ghost use Rattle.x86_semantics.specs.Operands.{branch_target, next_address};
+ghost use Rattle.x86_syntax.specs.Text.{next_address};
+ghost use Rattle.x86_semantics.specs.Operands.{branch_target};
 
 use image_loader::Image;
 use std::alloc::Global;

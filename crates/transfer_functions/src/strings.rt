@@ -3,7 +3,7 @@ ghost use Rattle.partitioned_memory.specs.declared.fact.Counted.{Counted};
 ghost use Rattle.bit_words.specs.declared.width.Width.TheVariants.{B32};
 ghost use Rattle.domain_laws.specs.Made.{values_of};
 ghost use Rattle.partitioned_memory.specs.Well.{MayHold};
-ghost use Rattle.x86_semantics.specs.Operands.{next_address};
+ghost use Rattle.x86_syntax.specs.Text.{next_address};
 ghost use Rattle.abstract_state.specs.Accessing.{loaded, storing};
 ghost use Rattle.abstract_state.specs.Expanding.{joined, lands};
 ghost use Rattle.transfer_functions.specs.Following.{followed};
@@ -20,14 +20,9 @@ use crate::values::{
 use abstract_state::{Expansion, Path, State, Stored, Truth, Truths};
 use bit_words::{NoMemory, Op, Width};
 use domain_laws::Domain;
+use memory_map::{EAX, EDI, ESI};
 use x86_semantics::{FlagRule, StringKind};
 use x86_syntax::{Repeat, Seg};
-
-const EAX: u8 = 0;
-
-const ESI: u8 = 6;
-
-const EDI: u8 = 7;
 
 // Whether a repetition ends by ZF.
 fn ends_by(repeat: Repeat, t: &Truths) -> Truth

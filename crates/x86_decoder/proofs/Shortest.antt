@@ -7,7 +7,7 @@ use Rattle.x86_syntax.specs.declared.instr.Instr.{Instr}
 use Rattle.x86_syntax.specs.declared.instr.Place.{Place}
 use Rattle.x86_syntax.specs.declared.prefixes.Prefixes.{Prefixes}
 use Rattle.x86_syntax.specs.declared.table.Row.{Row}
-use Rattle.x86_syntax.specs.Formats.{Format, Whole, Byte, matched, number_then, number_of}
+use Rattle.x86_syntax.specs.Formats.{Format, Whole, Byte, matched, number_then, little_endian}
 use Rattle.x86_syntax.specs.Spelling.{rm_of, displacement_size, index_register, address_then, ending, row_number_size, instr_of}
 use Rattle.x86_decoder.specs.declared.fault.DecodeFault.{DecodeFault}
 use Rattle.x86_decoder.specs.Reading.{Ends, Reads, Needs}
@@ -31,7 +31,7 @@ shortest_needs lang k some h = record {
 
 -- numbers
 
-pub number_step : {A : Type 0} (n : ℕ) (go : ℕ → Format A) (bytes : List ℕ) → n ≤ length bytes → matched (number_then n go) bytes ≡ matched (go (number_of (take n bytes))) (drop n bytes)
+pub number_step : {A : Type 0} (n : ℕ) (go : ℕ → Format A) (bytes : List ℕ) → n ≤ length bytes → matched (number_then n go) bytes ≡ matched (go (little_endian (take n bytes))) (drop n bytes)
 unfolding matched
 number_step zero go bytes le = refl
 number_step (suc n) go [] le = absurd (omega arith)
@@ -52,7 +52,7 @@ length_drop (suc n) (b ∷ bytes) le = omega (arith, length_drop n bytes (omega 
 number_least : (n k : ℕ) (go : ℕ → Format Instr) → ((v : ℕ) (x : List ℕ) (i : Instr) → matched (go v) x ≡ Some i → k ≤ length x) → (x : List ℕ) (i : Instr) → matched (number_then n go) x ≡ Some i → n + k ≤ length x
 number_least n k go least x i h =
     let long = number_long n go x i h in
-    omega (arith, least (number_of (take n x)) (drop n x) i (sym (number_step n go x long) ∙ h), length_drop n x long)
+    omega (arith, least (little_endian (take n x)) (drop n x) i (sym (number_step n go x long) ∙ h), length_drop n x long)
 
 take_front : (n : ℕ) (xs ys : List ℕ) → length xs ≡ n → take n (xs ++ ys) ≡ xs
 take_front zero [] ys e = refl
@@ -66,7 +66,7 @@ drop_front zero (x ∷ xs) ys e = absurd (omega arith)
 drop_front (suc n) [] ys e = absurd (omega arith)
 drop_front (suc n) (x ∷ xs) ys e = drop_front n xs ys (omega arith)
 
-number_joined : (n : ℕ) (go : ℕ → Format Instr) (xs ys : List ℕ) → length xs ≡ n → matched (number_then n go) (xs ++ ys) ≡ matched (go (number_of xs)) ys
+number_joined : (n : ℕ) (go : ℕ → Format Instr) (xs ys : List ℕ) → length xs ≡ n → matched (number_then n go) (xs ++ ys) ≡ matched (go (little_endian xs)) ys
 number_joined n go xs ys e =
     let step = number_step n go (xs ++ ys) (omega (arith, length-append xs ys)) in
     rw (take_front n xs ys e, drop_front n xs ys e) at step
@@ -80,7 +80,7 @@ pub number_shortest : (n k : ℕ) (go : ℕ → Format Instr) → ((v : ℕ) →
 number_shortest n k go each =
     let zeros = replicate n 0 in
     let size : length zeros ≡ n = length-replicate {A = ℕ} n 0 in
-    let s = each (number_of zeros) in
+    let s = each (little_endian zeros) in
     record {
       string = zeros ++ s.string;
       are_bytes = bytes_behind_zeros n s.string s.are_bytes;
@@ -95,7 +95,7 @@ pub number_needs : (n k : ℕ) (go : ℕ → Format Instr) (bytes : List ℕ) �
 number_needs n k go bytes few each =
     let zeros = replicate (n - length bytes) 0 in
     let count : length zeros ≡ n - length bytes = length-replicate {A = ℕ} (n - length bytes) 0 in
-    let s = each (number_of (bytes ++ zeros)) in
+    let s = each (little_endian (bytes ++ zeros)) in
     let size : length (bytes ++ zeros) ≡ n = omega (arith, length-append bytes zeros) in
     record {
       begins = record {
@@ -110,7 +110,7 @@ number_needs n k go bytes few each =
     }
 
 -- an answer behind a number is one before it
-pub reads_number : (n : ℕ) (go : ℕ → Format Instr) (bytes : List ℕ) (at : ℕ) (r : Result (Instr × ℕ) DecodeFault) → n ≤ length bytes → Reads (matched (go (number_of (take n bytes)))) (drop n bytes) (at + n) r → Reads (matched (number_then n go)) bytes at r
+pub reads_number : (n : ℕ) (go : ℕ → Format Instr) (bytes : List ℕ) (at : ℕ) (r : Result (Instr × ℕ) DecodeFault) → n ≤ length bytes → Reads (matched (go (little_endian (take n bytes)))) (drop n bytes) (at + n) r → Reads (matched (number_then n go)) bytes at r
 unfolding matched
 reads_number zero go bytes at r le h = (let same : at + 0 ≡ at = omega arith in rw same at h)
 reads_number (suc n) go [] at r le h = absurd (omega arith)
@@ -139,7 +139,7 @@ ending_needs p row code modrm place bytes few =
     let same : row_number_size p row + 0 ≡ row_number_size p row = omega arith in
     rw same at h
 
-number_whole : {A : Type 0} (n : ℕ) (f : ℕ → A) (s : List ℕ) → length s ≡ n → matched (number_then n (λ v. Whole (f v))) s ≡ Some (f (number_of s))
+number_whole : {A : Type 0} (n : ℕ) (f : ℕ → A) (s : List ℕ) → length s ≡ n → matched (number_then n (λ v. Whole (f v))) s ≡ Some (f (little_endian s))
 unfolding matched
 number_whole zero f [] e = refl
 number_whole zero f (b ∷ s) e = absurd (omega arith)
@@ -147,7 +147,7 @@ number_whole (suc n) f [] e = absurd (omega arith)
 number_whole (suc n) f (b ∷ s) e = number_whole n (λ high. f (b + 256 * high)) s (omega arith)
 
 pub ending_ends : (p : Prefixes) (row : Row) (code modrm : ℕ) (place : Place) (bytes : List ℕ) (at size : ℕ) (i : Instr) → size ≡ row_number_size p row → size ≤ length bytes
-    → i ≡ instr_of p row (record { code = code; modrm = modrm; place = place; number = number_of (take size bytes) }) → Ends (matched (ending p row code modrm place)) bytes at i (at + size)
+    → i ≡ instr_of p row (record { code = code; modrm = modrm; place = place; number = little_endian (take size bytes) }) → Ends (matched (ending p row code modrm place)) bytes at i (at + size)
 unfolding ending matched
 ending_ends p row code modrm place bytes at size i is_size enough is_i = record {
   size = size;

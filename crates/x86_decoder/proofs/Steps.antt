@@ -11,7 +11,7 @@ use Rattle.x86_syntax.specs.declared.prefixes.Prefixes.{Prefixes}
 use Rattle.x86_syntax.specs.declared.table.Map.{Map}
 use Rattle.x86_syntax.specs.declared.table.Map.TheVariants.{One, Two, Three}
 use Rattle.x86_syntax.specs.declared.table.Row.{Row}
-use Rattle.x86_syntax.specs.Formats.{Format, Byte, matched, number_of}
+use Rattle.x86_syntax.specs.Formats.{Format, Byte, matched, little_endian}
 use Rattle.x86_syntax.specs.Opcodes.{row_of, opcode_row, takes_modrm, may_escape, may_escape_twice}
 use Rattle.x86_syntax.specs.Spelling.{spelled_with, is_prefix, with_prefix, opcodes, escaped, opcode_then, behind, behind_modrm, is_wrong_place, ending, place_then, address_then, index_register, displacement_size, mod_of, reg_of, rm_of, row_number_size, instr_of}
 use Rattle.x86_syntax.proofs.FormatLemmas.{never_matched}
@@ -206,7 +206,7 @@ pub address_end : (p : Prefixes) (row : Row) (mode base code m : ℕ) (index : O
 address_end p row mode base code m index bytes at few =
     needs_reads _ bytes at (displacement_size mode base + row_number_size p row) (address_needs mode base (row_number_size p row) index _ bytes few (ending_shortest p row code m))
 
-pub address_step : (mode base size : ℕ) (index : Option (ℕ × ℕ)) (go : Place → Format Instr) (bytes front rest : List ℕ) (at : ℕ) (r : Result (Instr × ℕ) DecodeFault) → size ≡ displacement_size mode base → size ≤ length bytes → front ≡ take size bytes → rest ≡ drop size bytes → Reads (matched (go (address_place mode base index (number_of front)))) rest (at + size) r → Reads (matched (address_then mode base index go)) bytes at r
+pub address_step : (mode base size : ℕ) (index : Option (ℕ × ℕ)) (go : Place → Format Instr) (bytes front rest : List ℕ) (at : ℕ) (r : Result (Instr × ℕ) DecodeFault) → size ≡ displacement_size mode base → size ≤ length bytes → front ≡ take size bytes → rest ≡ drop size bytes → Reads (matched (go (address_place mode base index (little_endian front)))) rest (at + size) r → Reads (matched (address_then mode base index go)) bytes at r
 unfolding address_then
 address_step mode base size index go bytes front rest at r is_size enough is_front is_rest h =
     let g = rw (is_front, is_rest, is_size) at h in
@@ -218,9 +218,9 @@ pub ending_end : (p : Prefixes) (row : Row) (code m : ℕ) (place : Place) (byte
 ending_end p row code m place bytes at few = needs_reads _ bytes at (row_number_size p row) (ending_needs p row code m place bytes few)
 
 pub ending_whole : (p : Prefixes) (row : Row) (code m : ℕ) (place : Place) (bytes front : List ℕ) (at size : ℕ) (i : Instr) → size ≡ row_number_size p row → size ≤ length bytes → front ≡ take size bytes
-    → i ≡ instr_of p row (record { code = code; modrm = m; place = place; number = number_of front }) → Reads (matched (ending p row code m place)) bytes at (Ok (i, at + size))
+    → i ≡ instr_of p row (record { code = code; modrm = m; place = place; number = little_endian front }) → Reads (matched (ending p row code m place)) bytes at (Ok (i, at + size))
 ending_whole p row code m place bytes front at size i is_size enough is_front is_i =
-    ending_ends p row code m place bytes at size i is_size enough (is_i ∙ ap (λ xs. instr_of p row (record { code = code; modrm = m; place = place; number = number_of xs })) is_front)
+    ending_ends p row code m place bytes at size i is_size enough (is_i ∙ ap (λ xs. instr_of p row (record { code = code; modrm = m; place = place; number = little_endian xs })) is_front)
 
 -- for the answers
 

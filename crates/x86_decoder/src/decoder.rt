@@ -15,7 +15,10 @@ use crate::operands::{
 use crate::prefix_bytes::{add_prefix, is_prefix_byte};
 use x86_syntax::{Group, Instr, Map, Place, Prefixes, Row, find_opcode, find_row};
 
-/// The instruction at the front of `bytes`, and how many bytes it takes, at most 15.
+/// The instruction at the front of `bytes`, and how many bytes it takes, at most 15; takes no memory.
+///
+/// Refuses exactly where no listed instruction of at most 15 bytes stands there: NotListed where the first 15 bytes, or all
+/// where there are fewer, begin no listed instruction, Truncated where fewer than 15 begin one of at most 15, else TooLong.
 pub fn decode(bytes: &[u8]) -> Result<(Instr, u8), DecodeFault>
     ensures exact { result_ok result ≡ decoded bytes.now }
     ensures found { IfOk result (λ p. Decodes bytes.now p.0 p.1) }

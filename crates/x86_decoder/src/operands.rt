@@ -3,7 +3,7 @@ ghost use Rattle.arrayvec.specs.ArrayVec.{array_vec_len};
 ghost use Rattle.std.specs.Option.{option_to_list};
 ghost use Rattle.std.specs.Int.{cast_signed, w8};
 ghost use Rattle.x86_decoder.specs.Pieces.{parts_of, address_place};
-ghost use Rattle.x86_syntax.specs.Formats.{number_of};
+ghost use Rattle.x86_syntax.specs.Formats.{little_endian};
 ghost use Rattle.x86_syntax.specs.Spelling.{word_width, form_width, segment_named, sign_extended, number_size, row_number_size, placed, absolute, operands, arithmetic, shift, named, place_in, is_lock, repeat_of, string_segment, instr_of, reg_of, displacement_size, index_register, needs_memory, needs_register};
 
 use arrayvec::ArrayVec;
@@ -41,7 +41,7 @@ pub fn instr(prefixes: Prefixes, row: Row, pieces: Pieces) -> Instr
 {
     let segment = segment(prefixes.segment);
     Instr {
-        name: name_at(
+        name: mnemonic_of(
             row.name,
             prefixes.size,
             place_of(row, pieces.code),
@@ -75,7 +75,7 @@ fn place_of(row: Row, code: u8) -> u8
     }
 }
 
-fn name_at(name: Name, size: bool, place: u8, reg: u8) -> Mnemonic
+fn mnemonic_of(name: Name, size: bool, place: u8, reg: u8) -> Mnemonic
     ensures { result ≡ named name size place reg }
 {
     match name {
@@ -358,7 +358,7 @@ pub fn index_of(sib: u8) -> Option<(u8, u8)>
 /// The number that at most four bytes stand for, the least first.
 pub fn number(bytes: &[u8]) -> u32
     requires { length bytes.now ≤ 4 }
-    ensures { result ≡ number_of bytes.now }
+    ensures { result ≡ little_endian bytes.now }
 {
     byte_at(bytes, 0)
         + 256 * (byte_at(bytes, 1) + 256 * (byte_at(bytes, 2) + 256 * byte_at(bytes, 3)))

@@ -7,9 +7,10 @@ use Rattle.memory_map.specs.declared.choice.Choice.{Choice}
 use Rattle.memory_map.specs.State.{MachineState}
 use Rattle.x86_semantics.specs.declared.operation.FlagChange.{FlagChange}
 use Rattle.x86_semantics.specs.declared.operation.FlagChange.TheVariants.{FlipCarry, ClearCarry, SetCarry, ClearDirection, SetDirection}
-use Rattle.x86_semantics.specs.Registers.{AH, with_part}
+use Rattle.x86_semantics.specs.Registers.{with_part}
 use Rattle.x86_semantics.specs.Operands.{Ended, Next, at_address}
 use Rattle.x86_semantics.specs.Bits.{change_flag, load_status, store_status}
+use Rattle.x86_semantics.specs.declared.parts.TheConstants.{AH}
 use Rattle.statement_lang.specs.declared.stmt.Source.TheVariants as sources
 use Rattle.statement_lang.specs.declared.stmt.Stmt.TheVariants.{Goto}
 use Rattle.statement_lang.specs.Run.{run}

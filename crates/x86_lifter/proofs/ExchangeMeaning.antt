@@ -6,8 +6,9 @@ use Rattle.bit_words.specs.Width.{cut}
 use Rattle.bit_words.specs.Operators.{apply_op, formula}
 use Rattle.memory_map.specs.declared.choice.Choice.{Choice}
 use Rattle.memory_map.specs.State.{MachineState}
+use Rattle.memory_map.specs.declared.registers.TheConstants.{EAX}
 use Rattle.x86_syntax.specs.declared.instr.Operand.{Operand}
-use Rattle.x86_semantics.specs.Registers.{EAX, part, with_part}
+use Rattle.x86_semantics.specs.Registers.{part, with_part}
 use Rattle.x86_semantics.specs.Exchanges.{are_equal, with_accumulator_unless, compare_exchange, is_register_numbered, exchange_add}
 use Rattle.statement_lang.specs.Run.{run, run_from}
 use Rattle.x86_lifter.specs.Pieces.{places}

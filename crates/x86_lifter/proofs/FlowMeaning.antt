@@ -4,13 +4,15 @@ use Rattle.std.proofs.Math.Nat.{mod-mod}
 use Rattle.std.specs.Int.{cast_unsigned, w32}
 use Rattle.memory_map.specs.declared.choice.Choice.{Choice}
 use Rattle.memory_map.specs.State.{MachineState}
+use Rattle.memory_map.specs.declared.registers.TheConstants.{ECX}
 use Rattle.x86_syntax.specs.declared.instr.Cond.{Cond}
 use Rattle.x86_syntax.specs.declared.instr.Operand.{Operand}
 use Rattle.x86_syntax.specs.declared.instr.Operand.TheVariants.{Register, Number, Memory, Offset}
+use Rattle.x86_syntax.specs.Text.{next_address}
 use Rattle.x86_semantics.specs.declared.operation.Looping.{Looping}
 use Rattle.x86_semantics.specs.declared.operation.Looping.TheVariants.{Counted, Equal, NotEqual}
-use Rattle.x86_semantics.specs.Registers.{ECX, register, with_register}
-use Rattle.x86_semantics.specs.Operands.{Ended, Next, at_address, next_address, branch_target, reading}
+use Rattle.x86_semantics.specs.Registers.{register, with_register}
+use Rattle.x86_semantics.specs.Operands.{Ended, Next, at_address, branch_target, reading}
 use Rattle.x86_semantics.specs.Moves.{pushing, below}
 use Rattle.x86_semantics.specs.Flow.{jump, targeting, goto, call, return, loop, jump_if_no_count}
 use Rattle.statement_lang.specs.declared.stmt.Source.TheVariants as sources

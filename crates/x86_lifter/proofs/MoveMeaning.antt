@@ -10,6 +10,7 @@ use Rattle.memory_map.specs.declared.choice.Choice.{Choice}
 use Rattle.memory_map.specs.State.{MachineState}
 use Rattle.memory_map.specs.declared.registers.Regs.{Regs}
 use Rattle.memory_map.specs.Registers as regs
+use Rattle.memory_map.specs.declared.registers.TheConstants.{ESP}
 use Rattle.x86_syntax.specs.declared.instr.Address.{Address}
 use Rattle.x86_syntax.specs.declared.instr.Cond.{Cond}
 use Rattle.x86_syntax.specs.declared.instr.Seg.{Seg}
@@ -17,7 +18,7 @@ use Rattle.x86_syntax.specs.declared.instr.Seg.TheVariants.{Plain, Fs, Gs}
 use Rattle.x86_syntax.specs.declared.instr.Operand.{Operand}
 use Rattle.x86_syntax.specs.declared.instr.Operand.TheVariants.{Register, Number, Memory, Offset}
 use Rattle.x86_semantics.specs.Condition.{is_met}
-use Rattle.x86_semantics.specs.Registers.{ESP, register, with_register, part}
+use Rattle.x86_semantics.specs.Registers.{register, with_register, part}
 use Rattle.x86_semantics.specs.Operands.{Next, at_address, address_of, offset_in_segment, segment_base, base_part, index_part}
 use Rattle.x86_semantics.specs.Moves.{move, convert, lea, exchange, set, move_if, push, pop, pop_into, popped, above, leave}
 use Rattle.statement_lang.specs.declared.stmt.Source.TheVariants as sources

@@ -6,10 +6,11 @@ use Rattle.bit_words.specs.declared.op.Op.TheVariants.{Mul}
 use Rattle.bit_words.specs.Operators.{apply_op}
 use Rattle.memory_map.specs.declared.choice.Choice.{Choice}
 use Rattle.memory_map.specs.State.{MachineState}
+use Rattle.memory_map.specs.declared.registers.TheConstants.{EAX}
 use Rattle.x86_syntax.specs.declared.instr.Operand.{Operand}
 use Rattle.x86_semantics.specs.declared.flag_rule.FlagRule.{FlagRule}
 use Rattle.x86_semantics.specs.declared.flag_rule.FlagRule.TheVariants.{SignedProduct}
-use Rattle.x86_semantics.specs.Registers.{EAX, part, with_part, upper_register}
+use Rattle.x86_semantics.specs.Registers.{part, with_part, upper_register}
 use Rattle.x86_semantics.specs.Products.{multiply_long, multiply, divide}
 use Rattle.statement_lang.specs.Run.{run}
 use Rattle.x86_lifter.specs.Pieces.{places, ending}

@@ -6,12 +6,13 @@ use Rattle.bit_words.specs.Width.{bytes_of}
 use Rattle.bit_words.specs.Operators.{apply_op}
 use Rattle.memory_map.specs.declared.choice.Choice.{Choice}
 use Rattle.memory_map.specs.State.{MachineState}
+use Rattle.memory_map.specs.declared.registers.TheConstants.{EAX, ECX, ESI, EDI}
 use Rattle.x86_syntax.specs.declared.instr.Seg.{Seg}
 use Rattle.x86_syntax.specs.declared.instr.Repeat.{Repeat}
 use Rattle.x86_syntax.specs.declared.instr.Repeat.TheVariants.{Once, Rep, Repe, Repne}
 use Rattle.x86_semantics.specs.declared.operation.StringKind.{StringKind}
 use Rattle.x86_semantics.specs.declared.operation.StringKind.TheVariants as kinds
-use Rattle.x86_semantics.specs.Registers.{EAX, ECX, ESI, EDI, register, with_register, part, with_part}
+use Rattle.x86_semantics.specs.Registers.{register, with_register, part, with_part}
 use Rattle.x86_semantics.specs.Operands.{Ended, Next, at_address}
 use Rattle.x86_semantics.specs.Moves.{below}
 use Rattle.x86_semantics.specs.Strings.{element, source_address, moved, compared, step_of, counted, repeated, string}

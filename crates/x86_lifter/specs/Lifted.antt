@@ -2,8 +2,9 @@
 use Rattle.std.specs.Prelude.{ℕ, ◌+◌, ◌%◌, ◌^◌, List, [], ◌∷◌, ◌++◌}
 use Rattle.x86_semantics.specs.declared.operation.Operation.{Operation}
 use Rattle.x86_semantics.specs.declared.operation.Operation.TheVariants as operations
-use Rattle.x86_semantics.specs.Registers.{ECX}
-use Rattle.x86_semantics.specs.Operands.{next_address, branch_target}
+use Rattle.memory_map.specs.declared.registers.TheConstants.{ECX}
+use Rattle.x86_syntax.specs.Text.{next_address}
+use Rattle.x86_semantics.specs.Operands.{branch_target}
 use Rattle.statement_lang.specs.declared.stmt.Source.TheVariants.{Register, Number}
 use Rattle.statement_lang.specs.declared.stmt.Test.TheVariants.{Condition, Zero}
 use Rattle.statement_lang.specs.declared.stmt.Stmt.{Stmt}

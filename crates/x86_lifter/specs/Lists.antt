@@ -24,10 +24,12 @@ use Rattle.x86_semantics.specs.declared.operation.FlagChange.{FlagChange}
 use Rattle.x86_semantics.specs.declared.operation.FlagChange.TheVariants as changes
 use Rattle.x86_semantics.specs.declared.operation.StringKind.{StringKind}
 use Rattle.x86_semantics.specs.declared.operation.StringKind.TheVariants as kinds
-use Rattle.x86_semantics.specs.Registers.{EAX, ECX, ESP, EBP, ESI, EDI, AH, upper_register}
+use Rattle.memory_map.specs.declared.registers.TheConstants.{EAX, ECX, ESP, EBP, ESI, EDI}
+use Rattle.x86_semantics.specs.Registers.{upper_register}
 use Rattle.x86_semantics.specs.Operands.{branch_target}
 use Rattle.x86_semantics.specs.Exchanges.{is_register_numbered}
 use Rattle.x86_semantics.specs.FlagRules.{free_of, carry_flag, overflow_flag, status_flags}
+use Rattle.x86_semantics.specs.declared.parts.TheConstants.{AH}
 use Rattle.statement_lang.specs.declared.stmt.Source.{Source}
 use Rattle.statement_lang.specs.declared.stmt.Source.TheVariants.{Register, Temp, Number, Base}
 use Rattle.statement_lang.specs.declared.stmt.Test.{Test}

@@ -9,11 +9,10 @@ use crate::pieces::{
     skip_unless,
 };
 use bit_words::{Op, Width};
+use memory_map::EAX;
 use statement_lang::{Source, Stmt, Stmts, Test};
 use x86_semantics::FlagRule;
 use x86_syntax::Operand;
-
-const EAX: u8 = 0;
 
 // Passes over what the accumulator takes where it is equal to the place, which the temporary 6 tells.
 fn unless_equal() -> Stmt

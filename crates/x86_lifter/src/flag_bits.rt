@@ -4,9 +4,7 @@ ghost use Rattle.x86_lifter.specs.Lists.{changing, loading_status, storing_statu
 use crate::pieces::{copy, fetch_register, go_to, keep_register, listed, put, skip_unless};
 use bit_words::{Flags, Op, Width};
 use statement_lang::{Source, Stmt, Stmts, Test};
-use x86_semantics::{FlagChange, FlagRule};
-
-const AH: u8 = 4;
+use x86_semantics::{AH, FlagChange, FlagRule};
 
 fn changing(change: FlagChange) -> Stmt
     ensures { result ≡ changing change }

@@ -5,11 +5,10 @@ ghost use Rattle.x86_lifter.specs.Lists.{counting, going, loop_test, looping, no
 use crate::moves::none;
 use crate::pieces::{behind_places, copy, fetch, go_to, listed, put, skip_unless};
 use bit_words::{Flags, Op, Width};
+use memory_map::ECX;
 use statement_lang::{Source, Stmt, Stmts, Test};
 use x86_semantics::{Looping, branch_target};
 use x86_syntax::Operand;
-
-const ECX: u8 = 1;
 
 /// A branch's operand: an offset as the number of its target.
 pub fn resolved(at: u32, len: u8, target: Operand) -> Operand

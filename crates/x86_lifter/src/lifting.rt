@@ -18,11 +18,10 @@ use crate::products::{divide, multiply, multiply_long};
 use crate::shifts::shift;
 use crate::stack::{call, leave, pop, push, return_past};
 use crate::strings::string;
+use memory_map::ECX;
 use statement_lang::{Source, Stmt, Stmts, Test};
 use x86_semantics::{Operation, branch_target, next_address, operation_of};
 use x86_syntax::Instr;
-
-const ECX: u8 = 1;
 
 /// The instruction of `len` bytes at an address as statements, at most 32. Run on a state whose EIP is that address,
 /// they give exactly its next state, or its fault with the state as it was. It takes no memory.

@@ -7,11 +7,10 @@ use crate::pieces::{
     behind_places, fetch, fetch_register, free, free_flags, go_to, keep_register, put, set_flags,
 };
 use bit_words::{Op, Width};
+use memory_map::EAX;
 use statement_lang::{Source, Stmt, Stmts};
 use x86_semantics::{FlagRule, status_flags, upper_register};
 use x86_syntax::Operand;
-
-const EAX: u8 = 0;
 
 /// MUL, IMUL of the accumulator.
 pub fn multiply_long(high: Op, rule: FlagRule, w: Width, from: Operand, next: u32) -> Stmts

@@ -8,12 +8,9 @@ use crate::pieces::{
     put,
 };
 use bit_words::{Op, Width};
+use memory_map::{EBP, ESP};
 use statement_lang::{Source, Stmt, Stmts};
 use x86_syntax::Operand;
-
-const ESP: u8 = 4;
-
-const EBP: u8 = 5;
 
 fn esp() -> Source
     ensures { result ≡ esp }

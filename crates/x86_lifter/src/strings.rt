@@ -9,17 +9,10 @@ use crate::pieces::{
     add, copy, fetch_register, free, go_to, keep_register, listed, put, set_flags, skip_unless,
 };
 use bit_words::{Flags, Op, Width};
+use memory_map::{EAX, ECX, EDI, ESI};
 use statement_lang::{Source, Stmt, Stmts, Test};
 use x86_semantics::{FlagRule, StringKind};
 use x86_syntax::{Repeat, Seg};
-
-const EAX: u8 = 0;
-
-const ECX: u8 = 1;
-
-const ESI: u8 = 6;
-
-const EDI: u8 = 7;
 
 fn never() -> Test
     ensures { result ≡ never }

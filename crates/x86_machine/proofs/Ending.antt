@@ -7,11 +7,13 @@ use Rattle.bit_words.specs.Width.{bits_of, cut, is_signed, signed_of}
 use Rattle.memory_map.specs.declared.choice.Choice.{Choice}
 use Rattle.memory_map.specs.declared.fault.FaultKind.TheVariants as kinds
 use Rattle.memory_map.specs.State.{MachineState}
+use Rattle.memory_map.specs.declared.registers.TheConstants.{ECX, ESP, EBP, EDI}
 use Rattle.x86_syntax.specs.declared.instr.Operand.{Operand}
 use Rattle.x86_syntax.specs.declared.instr.Operand.TheVariants.{Register, Number, Memory, Offset}
 use Rattle.x86_syntax.specs.declared.instr.Repeat.{Repeat}
 use Rattle.x86_syntax.specs.declared.instr.Repeat.TheVariants.{Once, Rep, Repe, Repne}
 use Rattle.x86_syntax.specs.declared.instr.Seg.{Seg}
+use Rattle.x86_syntax.specs.Text.{next_address}
 use Rattle.x86_semantics.specs.declared.operation.Operation.{Operation}
 use Rattle.x86_semantics.specs.declared.operation.Operation.TheVariants.{Combine, Carry, Compare, Move, Convert, Lea, Exchange, Shift, DoubleShift, TestBit, FindBit, CompareExchange, ExchangeAdd, MultiplyLong, Multiply, Divide, Jump, Goto, Loop, JumpIfNoCount, Call, Return, Push, Pop, Leave, Set, MoveIf, Flag, LoadStatus, StoreStatus, Element, Nothing, Stop}
 use Rattle.x86_semantics.specs.declared.operation.StringKind.{StringKind}
@@ -19,9 +21,9 @@ use Rattle.x86_semantics.specs.declared.operation.StringKind.TheVariants as stri
 use Rattle.x86_semantics.specs.Condition.{is_met}
 use Rattle.x86_semantics.specs.Does.{done}
 use Rattle.x86_semantics.specs.Moves.{below, pop_into, popped}
-use Rattle.x86_semantics.specs.Operands.{Ended, Next, address_of, next_address}
+use Rattle.x86_semantics.specs.Operands.{Ended, Next, address_of}
 use Rattle.x86_semantics.specs.Products.{divided, dividend, on_divided, signed_dividend}
-use Rattle.x86_semantics.specs.Registers.{EBP, ECX, EDI, ESP, register}
+use Rattle.x86_semantics.specs.Registers.{register}
 use Rattle.x86_semantics.specs.Strings.{counted, element, source_address, step_of, string}
 use Rattle.x86_machine.specs.Faults.{Access, destination, element_reads, element_writes, first_fault, fits, operand, value_of}
 use Rattle.x86_machine.proofs.Accesses.{EndsBy, last_reading_ends, last_valued_ends, loading_ends, reading_ends, storing_ends, targeting_ends, unread, unwritten, writing_ends}

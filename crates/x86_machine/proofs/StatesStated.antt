@@ -34,6 +34,7 @@ use Rattle.x86_machine.proofs.Apart.{zeros_size}
 use Rattle.x86_machine.proofs.Enumerated.{fold-append}
 use Rattle.x86_machine.proofs.Filled.{AgreesWith, IsFilledIn, IsSameOrFilled, filled, filled-mapping, filled-other, filled_leads, fills_each}
 use Rattle.x86_machine.proofs.StatesMeet.{in_unset}
+use Rattle.x86_machine.proofs.Zeroing.{in_left, in_right}
 
 -- ---- addresses of a list
 
@@ -71,15 +72,6 @@ one_map : (g : ℕ → ℕ) (xs : List ℕ) (a : ℕ) → IsOne xs a → IsFille
 one_map g [] a h = h
 one_map g (x ∷ xs) a (inl e) = inl e
 one_map g (x ∷ xs) a (inr h) = inr (one_map g xs a h)
-
-in_left : (xs ys : List (ℕ × ℕ)) (a : ℕ) → IsFilledIn xs a → IsFilledIn (xs ++ ys) a
-in_left [] ys a h = absurd h
-in_left (x ∷ xs) ys a (inl e) = inl e
-in_left (x ∷ xs) ys a (inr h) = inr (in_left xs ys a h)
-
-in_right : (xs ys : List (ℕ × ℕ)) (a : ℕ) → IsFilledIn ys a → IsFilledIn (xs ++ ys) a
-in_right [] ys a h = h
-in_right (x ∷ xs) ys a h = inr (in_right xs ys a h)
 
 agrees_both : (t : Range) (xs ys : List (ℕ × ℕ)) → AgreesWith t xs → AgreesWith t ys → AgreesWith t (xs ++ ys)
 agrees_both t [] ys h k = k

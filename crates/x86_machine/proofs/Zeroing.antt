@@ -41,12 +41,12 @@ unset_zero (s ∷ spans) = both_zero (zeros_from s.low s.size) (unset_zeros span
 
 -- ---- which addresses are among them
 
-in_left : (xs ys : List (ℕ × ℕ)) (a : ℕ) → IsFilledIn xs a → IsFilledIn (xs ++ ys) a
+pub in_left : (xs ys : List (ℕ × ℕ)) (a : ℕ) → IsFilledIn xs a → IsFilledIn (xs ++ ys) a
 in_left [] ys a h = absurd h
 in_left (x ∷ xs) ys a (inl e) = inl e
 in_left (x ∷ xs) ys a (inr h) = inr (in_left xs ys a h)
 
-in_right : (xs ys : List (ℕ × ℕ)) (a : ℕ) → IsFilledIn ys a → IsFilledIn (xs ++ ys) a
+pub in_right : (xs ys : List (ℕ × ℕ)) (a : ℕ) → IsFilledIn ys a → IsFilledIn (xs ++ ys) a
 in_right [] ys a h = h
 in_right (x ∷ xs) ys a h = inr (in_right xs ys a h)
 

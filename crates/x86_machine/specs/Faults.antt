@@ -9,6 +9,7 @@ use Rattle.memory_map.specs.declared.fault.FaultKind.{FaultKind}
 use Rattle.memory_map.specs.declared.fault.FaultKind.TheVariants as kinds
 use Rattle.memory_map.specs.Range.{byte_at, may_write}
 use Rattle.memory_map.specs.State.{MachineState, memory}
+use Rattle.memory_map.specs.declared.registers.TheConstants.{ECX, ESP, EBP, EDI}
 use Rattle.x86_syntax.specs.declared.instr.Operand.{Operand}
 use Rattle.x86_syntax.specs.declared.instr.Operand.TheVariants.{Register, Number, Memory, Offset}
 use Rattle.x86_syntax.specs.declared.instr.Repeat.{Repeat}
@@ -23,7 +24,7 @@ use Rattle.x86_semantics.specs.Memory.{next_byte, word_at}
 use Rattle.x86_semantics.specs.Moves.{below, popped}
 use Rattle.x86_semantics.specs.Operands.{address_of}
 use Rattle.x86_semantics.specs.Products.{dividend, signed_dividend}
-use Rattle.x86_semantics.specs.Registers.{EBP, ECX, EDI, ESP, part, register}
+use Rattle.x86_semantics.specs.Registers.{part, register}
 use Rattle.x86_semantics.specs.Strings.{source_address}
 
 -- ---- accesses

@@ -1,5 +1,5 @@
 ghost use Rattle.std.specs.Prelude.{◌≡◌, ◌+◌, ◌-◌, ◌<◌, ◌^◌, ◌&&◌, ◌||◌, not, map, position, OnOk};
-ghost use Rattle.std.specs.List.Sorted.{IsNonDecreasingBy, IsPermutation};
+ghost use Rattle.std.specs.List.Sorted.{IsNonDecreasingBy};
 ghost use Rattle.std.specs.List.{enumerate_from, list_all, list_any, range_with_len};
 ghost use Rattle.memory_map.specs.Image.{has_exit_word, is_pe};
 ghost use Rattle.memory_map.specs.Range.{has};
@@ -10,7 +10,7 @@ ghost use Rattle.x86_machine.specs.Started.{exit_word, exit_word_span, is_free_b
 use crate::StartFile;
 use crate::window::{base_window, stack_window};
 use image_loader::Image;
-use memory_map::{Fill, Format, Span};
+use memory_map::{Fill, Format, Span, sort_by_low};
 use statement_lang::Cells;
 use std::alloc::{AllocError, Global};
 
@@ -78,14 +78,6 @@ fn zero_between(cells: &mut Cells, from: u64, end: u64)
     for a in from..end {
         cells.fill(a, 0);
     }
-}
-
-fn sort_by_low(spans: &mut Vec<Span>) -> Result<(), AllocError>
-    ensures moved { IsPermutation spans.old.items spans.new.items }
-    ensures sorted { OnOk result (IsNonDecreasingBy (λ s. s.low) spans.new.items) }
-{
-    spans.sort_by_key(|s| s.low)?;
-    Ok(())
 }
 
 // Fills a byte with 0 at each address of spans in the order of their first ones: once, also where several have it.

@@ -3,6 +3,7 @@ use Rattle.std.proofs.Common.{◌≡◌, ℕ, Bool, true, false, cond, Option, N
 use Rattle.bit_words.specs.declared.width.Width.{Width}
 use Rattle.memory_map.specs.declared.choice.Choice.{Choice}
 use Rattle.memory_map.specs.State.{MachineState}
+use Rattle.memory_map.specs.declared.registers.TheConstants.{ECX}
 use Rattle.x86_syntax.specs.declared.instr.Instr.{Instr}
 use Rattle.x86_syntax.specs.declared.instr.Seg.{Seg}
 use Rattle.x86_syntax.specs.declared.instr.Repeat.{Repeat}
@@ -15,7 +16,7 @@ use Rattle.x86_semantics.specs.declared.operation.Operation.{Operation}
 use Rattle.x86_semantics.specs.declared.operation.Operation.TheVariants.{Combine, Carry, Compare, Move, Convert, Lea, Exchange, Shift, DoubleShift, TestBit, FindBit, CompareExchange, ExchangeAdd, MultiplyLong, Multiply, Divide, Jump, Goto, Loop, JumpIfNoCount, Call, Return, Push, Pop, Leave, Set, MoveIf, Flag, LoadStatus, StoreStatus, Element, Nothing, Stop}
 use Rattle.x86_semantics.specs.Condition.{is_met}
 use Rattle.x86_semantics.specs.Memory.{word_at, stored}
-use Rattle.x86_semantics.specs.Registers.{ECX, register}
+use Rattle.x86_semantics.specs.Registers.{register}
 use Rattle.x86_semantics.specs.Operands.{Ended, Next, on_word, on_stored, address_of, loading, storing, reading, writing}
 use Rattle.x86_semantics.specs.Moves.{pop_into}
 use Rattle.x86_semantics.specs.Flow.{targeting}

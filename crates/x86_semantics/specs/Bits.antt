@@ -7,8 +7,9 @@ use Rattle.x86_semantics.specs.declared.flag_rule.FlagRule.TheVariants.{Status}
 use Rattle.x86_semantics.specs.declared.operation.FlagChange.{FlagChange}
 use Rattle.x86_semantics.specs.declared.operation.FlagChange.TheVariants.{FlipCarry, ClearCarry, SetCarry, ClearDirection, SetDirection}
 use Rattle.x86_semantics.specs.FlagRules.{ruled}
-use Rattle.x86_semantics.specs.Registers.{AH, part, with_part}
+use Rattle.x86_semantics.specs.Registers.{part, with_part}
 use Rattle.x86_semantics.specs.Operands.{Ended, Next, at_address, with_flags}
+use Rattle.x86_semantics.specs.declared.parts.TheConstants.{AH}
 
 abbrev pub changed : FlagChange → Flags → Flags
 changed FlipCarry f = record f { carry = not f.carry }

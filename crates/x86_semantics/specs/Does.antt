@@ -6,9 +6,10 @@ use Rattle.memory_map.specs.State.{MachineState}
 use Rattle.x86_syntax.specs.declared.instr.Instr.{Instr}
 use Rattle.x86_syntax.specs.declared.instr.Operand.{Operand}
 use Rattle.x86_syntax.specs.declared.instr.Operand.TheVariants.{Offset}
+use Rattle.x86_syntax.specs.Text.{next_address}
 use Rattle.x86_semantics.specs.declared.operation.Operation.{Operation}
 use Rattle.x86_semantics.specs.declared.operation.Operation.TheVariants.{Combine, Carry, Compare, Move, Convert, Lea, Exchange, Shift, DoubleShift, TestBit, FindBit, CompareExchange, ExchangeAdd, MultiplyLong, Multiply, Divide, Jump, Goto, Loop, JumpIfNoCount, Call, Return, Push, Pop, Leave, Set, MoveIf, Flag, LoadStatus, StoreStatus, Element, Nothing, Stop}
-use Rattle.x86_semantics.specs.Operands.{Ended, Next, Faulted, at_address, next_address}
+use Rattle.x86_semantics.specs.Operands.{Ended, Next, Faulted, at_address}
 use Rattle.x86_semantics.specs.Operations.{operation_of}
 use Rattle.x86_semantics.specs.Arithmetic.{combine, carry, compare}
 use Rattle.x86_semantics.specs.Moves.{move, convert, lea, exchange, set, move_if, push, pop, leave}

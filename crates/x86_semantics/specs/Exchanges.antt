@@ -6,10 +6,11 @@ use Rattle.bit_words.specs.Width.{cut}
 use Rattle.bit_words.specs.Operators.{apply_op}
 use Rattle.memory_map.specs.declared.choice.Choice.{Choice}
 use Rattle.memory_map.specs.State.{MachineState}
+use Rattle.memory_map.specs.declared.registers.TheConstants.{EAX}
 use Rattle.x86_syntax.specs.declared.instr.Operand.{Operand}
 use Rattle.x86_syntax.specs.declared.instr.Operand.TheVariants.{Register}
 use Rattle.x86_semantics.specs.declared.flag_rule.FlagRule.TheVariants.{Sum, Difference}
-use Rattle.x86_semantics.specs.Registers.{EAX, part, with_part}
+use Rattle.x86_semantics.specs.Registers.{part, with_part}
 use Rattle.x86_semantics.specs.Operands.{Ended, reading, writing}
 use Rattle.x86_semantics.specs.Arithmetic.{flagged}
 

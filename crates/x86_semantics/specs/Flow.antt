@@ -2,14 +2,16 @@
 use Rattle.std.specs.Prelude.{ℕ, Bool, true, not, ◌==◌, ◌&&◌, if◌then◌else◌, ℤ}
 use Rattle.bit_words.specs.declared.width.Width.TheVariants.{B32}
 use Rattle.memory_map.specs.State.{MachineState, Flags}
+use Rattle.memory_map.specs.declared.registers.TheConstants.{ECX, ESP}
 use Rattle.x86_syntax.specs.declared.instr.Cond.{Cond}
 use Rattle.x86_syntax.specs.declared.instr.Operand.{Operand}
 use Rattle.x86_syntax.specs.declared.instr.Operand.TheVariants.{Offset}
+use Rattle.x86_syntax.specs.Text.{next_address}
 use Rattle.x86_semantics.specs.declared.operation.Looping.{Looping}
 use Rattle.x86_semantics.specs.declared.operation.Looping.TheVariants.{Counted, Equal, NotEqual}
 use Rattle.x86_semantics.specs.Condition.{is_met}
-use Rattle.x86_semantics.specs.Registers.{ECX, ESP, register, with_register}
-use Rattle.x86_semantics.specs.Operands.{Ended, Next, at_address, next_address, branch_target, loading, reading}
+use Rattle.x86_semantics.specs.Registers.{register, with_register}
+use Rattle.x86_semantics.specs.Operands.{Ended, Next, at_address, branch_target, loading, reading}
 use Rattle.x86_semantics.specs.Moves.{above, below, pushing}
 
 -- taken where the condition is met

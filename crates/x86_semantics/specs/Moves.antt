@@ -6,12 +6,13 @@ use Rattle.bit_words.specs.declared.op.Op.{Op}
 use Rattle.bit_words.specs.declared.op.Op.TheVariants.{Add, Sub}
 use Rattle.bit_words.specs.Operators.{apply_op, one_if}
 use Rattle.memory_map.specs.State.{MachineState}
+use Rattle.memory_map.specs.declared.registers.TheConstants.{ESP, EBP}
 use Rattle.x86_syntax.specs.declared.instr.Address.{Address}
 use Rattle.x86_syntax.specs.declared.instr.Cond.{Cond}
 use Rattle.x86_syntax.specs.declared.instr.Operand.{Operand}
 use Rattle.x86_syntax.specs.declared.instr.Operand.TheVariants.{Memory}
 use Rattle.x86_semantics.specs.Condition.{is_met}
-use Rattle.x86_semantics.specs.Registers.{ESP, EBP, register, with_register, part, with_part}
+use Rattle.x86_semantics.specs.Registers.{register, with_register, part, with_part}
 use Rattle.x86_semantics.specs.Operands.{Ended, Next, at_address, offset_in_segment, address_of, loading, storing, reading, writing}
 
 abbrev pub move : Operand → Operand → ℕ → MachineState → Ended

@@ -27,10 +27,6 @@ at_address a m = record m { eip = a }
 abbrev pub with_flags : Flags → MachineState → MachineState
 with_flags f m = record m { flags = f }
 
--- the address after an instruction of n bytes
-abbrev pub next_address : ℕ → ℕ → ℕ
-next_address at n = (at + n) % 2 ^ 32
-
 -- a branch's offset counts from the address after it
 abbrev pub branch_target : ℕ → ℕ → ℤ → ℕ
 branch_target at n offset = (at + n + cast_unsigned w32 offset) % 2 ^ 32

@@ -6,6 +6,7 @@ use Rattle.bit_words.specs.Width.{cut}
 use Rattle.bit_words.specs.declared.op.Op.{Op}
 use Rattle.bit_words.specs.declared.op.Op.TheVariants as ops
 use Rattle.memory_map.specs.declared.fault.FaultKind.TheVariants.{Halt, Trap, Undefined}
+use Rattle.memory_map.specs.declared.registers.TheConstants.{EAX, EDX}
 use Rattle.x86_syntax.specs.declared.instr.Instr.{Instr}
 use Rattle.x86_syntax.specs.declared.instr.Cond.{Cond}
 use Rattle.x86_syntax.specs.declared.instr.Mnemonic.{Mnemonic}
@@ -23,7 +24,6 @@ use Rattle.x86_semantics.specs.declared.operation.BitChange.TheVariants.{KeepBit
 use Rattle.x86_semantics.specs.declared.operation.FlagChange.TheVariants.{FlipCarry, ClearCarry, SetCarry, ClearDirection, SetDirection}
 use Rattle.x86_semantics.specs.declared.operation.Operation.{Operation}
 use Rattle.x86_semantics.specs.declared.operation.Operation.TheVariants as does
-use Rattle.x86_semantics.specs.Registers.{EAX, EDX}
 use Rattle.x86_semantics.specs.Widths.{has_own_widths}
 
 -- what no spelling names

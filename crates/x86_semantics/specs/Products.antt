@@ -8,11 +8,12 @@ use Rattle.bit_words.specs.Operators.{apply_op}
 use Rattle.memory_map.specs.declared.choice.Choice.{Choice}
 use Rattle.memory_map.specs.declared.fault.FaultKind.TheVariants as kinds
 use Rattle.memory_map.specs.State.{MachineState}
+use Rattle.memory_map.specs.declared.registers.TheConstants.{EAX}
 use Rattle.x86_syntax.specs.declared.instr.Operand.{Operand}
 use Rattle.x86_semantics.specs.declared.flag_rule.FlagRule.{FlagRule}
 use Rattle.x86_semantics.specs.declared.flag_rule.FlagRule.TheVariants.{SignedProduct}
 use Rattle.x86_semantics.specs.FlagRules.{freed, status_flags}
-use Rattle.x86_semantics.specs.Registers.{EAX, part, with_part, upper_register}
+use Rattle.x86_semantics.specs.Registers.{part, with_part, upper_register}
 use Rattle.x86_semantics.specs.Operands.{Ended, Next, Faulted, at_address, with_flags, reading}
 use Rattle.x86_semantics.specs.Arithmetic.{flagged}
 

@@ -5,33 +5,10 @@ use Rattle.bit_words.specs.declared.width.Width.TheVariants.{B8, B16, B32}
 use Rattle.bit_words.specs.declared.op.Op.{Op}
 use Rattle.bit_words.specs.declared.op.Op.TheVariants.{Low8, High8, Low16, PutLow8, PutHigh8, PutLow16}
 use Rattle.bit_words.specs.Operators.{apply_op}
+use Rattle.memory_map.specs.declared.registers.TheConstants.{EDX}
 use Rattle.memory_map.specs.Registers as regs
 use Rattle.memory_map.specs.State.{MachineState}
-
-abbrev pub EAX : ℕ
-EAX = 0
-
-abbrev pub ECX : ℕ
-ECX = 1
-
-abbrev pub EDX : ℕ
-EDX = 2
-
-abbrev pub ESP : ℕ
-ESP = 4
-
-abbrev pub EBP : ℕ
-EBP = 5
-
-abbrev pub ESI : ℕ
-ESI = 6
-
-abbrev pub EDI : ℕ
-EDI = 7
-
--- AH as a register of 8 bits
-abbrev pub AH : ℕ
-AH = 4
+use Rattle.x86_semantics.specs.declared.parts.TheConstants.{AH}
 
 -- a register by its number modulo 8: EAX ECX EDX EBX ESP EBP ESI EDI
 unfoldable pub register : ℕ → MachineState → ℕ

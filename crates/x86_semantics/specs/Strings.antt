@@ -6,6 +6,7 @@ use Rattle.bit_words.specs.Width.{bytes_of}
 use Rattle.bit_words.specs.Operators.{apply_op}
 use Rattle.memory_map.specs.declared.choice.Choice.{Choice}
 use Rattle.memory_map.specs.State.{MachineState, Flags}
+use Rattle.memory_map.specs.declared.registers.TheConstants.{EAX, ECX, ESI, EDI}
 use Rattle.x86_syntax.specs.declared.instr.Seg.{Seg}
 use Rattle.x86_syntax.specs.declared.instr.Repeat.{Repeat}
 use Rattle.x86_syntax.specs.declared.instr.Repeat.TheVariants.{Once, Repe, Repne}
@@ -13,7 +14,7 @@ use Rattle.x86_semantics.specs.declared.flag_rule.FlagRule.TheVariants.{Differen
 use Rattle.x86_semantics.specs.declared.operation.StringKind.{StringKind}
 use Rattle.x86_semantics.specs.declared.operation.StringKind.TheVariants.{Move, Compare, Store, Load, Scan}
 use Rattle.x86_semantics.specs.FlagRules.{flags_after}
-use Rattle.x86_semantics.specs.Registers.{EAX, ECX, ESI, EDI, register, with_register, part, with_part}
+use Rattle.x86_semantics.specs.Registers.{register, with_register, part, with_part}
 use Rattle.x86_semantics.specs.Operands.{Ended, Next, at_address, with_flags, segment_base, loading, storing}
 use Rattle.x86_semantics.specs.Moves.{above}
 use Rattle.x86_semantics.specs.Flow.{counting_down}

@@ -1,5 +1,6 @@
 ghost use Rattle.std.specs.Prelude.{◌≡◌};
-ghost use Rattle.x86_semantics.specs.Operands.{branch_target, next_address};
+ghost use Rattle.x86_syntax.specs.Text.{next_address};
+ghost use Rattle.x86_semantics.specs.Operands.{branch_target};
 
 /// The address after an instruction of `len` bytes at an address; after 2^32 - 1 comes 0.
 pub fn next_address(at: u32, len: u8) -> u32

@@ -15,5 +15,5 @@ pub use addresses::{branch_target, next_address};
 pub use flag_rule::{FlagRule, status_flags};
 pub use operation::{BitChange, FlagChange, Looping, Operation, StringKind};
 pub use operations::operation_of;
-pub use parts::{byte_part, put_byte_part, upper_register};
+pub use parts::{AH, byte_part, put_byte_part, upper_register};
 pub use widths::has_own_widths;

@@ -3,12 +3,8 @@ ghost use Rattle.x86_semantics.specs.Operations.{bit_scan_of, bit_test_of, compa
 
 use crate::{BitChange, FlagChange, FlagRule, Looping, Operation, StringKind, has_own_widths};
 use bit_words::{Op, Width};
-use memory_map::FaultKind;
+use memory_map::{EAX, EDX, FaultKind};
 use x86_syntax::{Cond, Instr, Mnemonic, Operand};
-
-const EAX: u8 = 0;
-
-const EDX: u8 = 2;
 
 /// The operation of an instruction. What no spelling names is the fault Undefined, also where operands have other widths than the
 /// operation's own.

@@ -1,6 +1,6 @@
 -- Laws of sets of byte strings that are read from the front.
 use Rattle.std.proofs.Common.{◌≡◌, ℕ, suc, zero, ◌+◌, ◌≤◌, List, [], ◌∷◌, ◌++◌, length, take, refl, sym, arith, ◌*◌, Some, None}
-use Rattle.x86_syntax.specs.Formats.{Format, Whole, Never, Byte, matched, number_then, number_of}
+use Rattle.x86_syntax.specs.Formats.{Format, Whole, Never, Byte, matched, number_then, little_endian}
 
 -- what is left of the set once these bytes stand in front
 unfoldable pub after : {A : Type 0} → Format A → List ℕ → Format A
@@ -33,7 +33,7 @@ one_form Never [] (y ∷ x) a b here there = cc
 one_form Never (d ∷ s) (y ∷ x) a b here there = cc
 
 -- n bytes read as a number leave what follows that number
-pub number_read : {A : Type 0} (n : ℕ) (go : ℕ → Format A) (bytes : List ℕ) → n ≤ length bytes → after (number_then n go) (take n bytes) ≡ go (number_of (take n bytes))
+pub number_read : {A : Type 0} (n : ℕ) (go : ℕ → Format A) (bytes : List ℕ) → n ≤ length bytes → after (number_then n go) (take n bytes) ≡ go (little_endian (take n bytes))
 unfolding after
 number_read zero go bytes le = refl
 number_read (suc n) go [] le = absurd (omega arith)

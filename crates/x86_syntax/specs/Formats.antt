@@ -20,6 +20,6 @@ number_then zero go = go 0
 number_then (suc n) go = Byte (λ low. number_then n (λ high. go (low + 256 * high)))
 
 -- the number that bytes stand for, the least first
-abbrev pub number_of : List ℕ → ℕ
-number_of [] = 0
-number_of (low ∷ bytes) = low + 256 * number_of bytes
+abbrev pub little_endian : List ℕ → ℕ
+little_endian [] = 0
+little_endian (low ∷ bytes) = low + 256 * little_endian bytes

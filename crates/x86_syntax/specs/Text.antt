@@ -223,7 +223,7 @@ unfoldable pub operands_text : Bool → ℕ → ℕ → List Operand → List �
 operands_text sized next k [] = []
 operands_text sized next k (op ∷ ops) = separator k ++ operand_text sized next op ++ operands_text sized next (k + 1) ops
 
--- the address behind an instruction
+-- the address after an instruction of `len` bytes
 abbrev pub next_address : ℕ → ℕ → ℕ
 next_address at len = (at + len) % 2 ^ 32
 

@@ -664,35 +664,35 @@ ecx=10|0F BC C1|next eax=4 f=???0??
 |0F B1 D1|next / next
 ecx=3;edx=4|0F C1 D1|next ecx=7 edx=3 f=000000";
 
-/// Single expansions over numbers and lines of sixteen numbers, in the same form; `N..M` are the numbers of a line.
-pub(super) const LINED: &str = "\
-# Loads at several numbers
-eax=8049004;seen;eax=8049003;widen;ecx=5|8B 08|next ecx=any
-eax=4;seen;eax=3;widen;ecx=5|8B 08|next ecx=any
+/// Single expansions over ranges of numbers, in the same form; `N..M` are the numbers from N to M.
+pub(super) const INTERVALS: &str = "\
+# Loads at several numbers: AND makes 0 to F of what is not known, ADD another 16 of these
+!83 E0 0F;!05 00 90 04 08;ecx=5|8B 08|next ecx=any
+!83 E0 0F;ecx=5|8B 08|next ecx=any
 # Stores at several numbers: in the fault zone, in the image, and elsewhere
-eax=4;seen;eax=3;widen|C7 00 01 00 00 00|none
-eax=FF4;seen;eax=FF3;widen|C6 00 01|none
-eax=FF4;seen;eax=FF3;widen|C7 00 01 00 00 00|! store
-eax=FFFFFFF4;seen;eax=FFFFFFF3;widen|C7 00 01 00 00 00|none
-eax=F0000004;seen;eax=F0000003;widen|C7 00 01 00 00 00|none
-eax=EFFFFFF4;seen;eax=EFFFFFF3;widen|C6 00 01|next d=EFFFFFF0+10 / w EFFFFFF0+10
-eax=EFFFFFF4;seen;eax=EFFFFFF3;widen|C7 00 01 00 00 00|! store
-eax=1004;seen;eax=1003;widen|C6 00 01|next d=1000+10 / w 1000+10
-eax=1004;seen;eax=1003;widen|C7 00 01 00 00 00|! store
-eax=8049004;seen;eax=8049003;widen|C6 00 01|next d=8049000+10 / w 8049000+10
-eax=8049004;seen;eax=8049003;widen|C7 00 01 00 00 00|next d=8049000+10 / w 8049000+10
-eax=8049014;seen;eax=8049013;widen|C6 00 01|none
-eax=8049014;seen;eax=8049013;widen|C7 00 01 00 00 00|! store
-eax=804A004;seen;eax=804A003;widen|C6 00 01|next d=804A000+4,804A008+8 / w 804A000+4 / w 804A008+8
-eax=804A004;seen;eax=804A003;widen|C7 00 01 00 00 00|next d=804A000+4,804A008+B / w 804A000+4 / w 804A008+B
-eax=20000004;seen;eax=20000003;widen|C6 00 01|! store
-[1000]4=1;[804900C]4=2;[804A010]4=3;eax=8049004;seen;eax=8049003;widen|C7 00 05 00 00 00|next m=[1000]4=1,[804A010]4=3 d=1000+4,8049000+10,804A010+4 / w 8049000+10
-[804A00E]4=2;[804A013]1=3;eax=804A004;seen;eax=804A003;widen|C7 00 05 00 00 00|next m=[804A013]1=3 d=804A000+4,804A008+C / w 804A000+4 / w 804A008+B
-!83 7C 24 08 02;eax=8049004;seen;eax=8049003;widen|C6 00 01|next d=8049000+10 / w 8049000+10
-# A line is no number, and is refined as what is not known
-eax=8049004;seen;eax=8049003;widen|FF E0|! target
-eax=8049004;seen;eax=8049003;widen|89 05 00 90 04 08|next m=[8049000]4=8049000..804900F d=8049000+4 / w 8049000+4
-eax=8049004;seen;eax=8049003;widen;!3D 05 00 00 00|74 10|8048012 eax=5 / next
-eax=8049004;seen;eax=8049003;widen;!3D 05 00 00 00|76 10|8048012 eax=0 / 8048012 eax=1 / 8048012 eax=2 / 8048012 eax=3 / 8048012 eax=4 / 8048012 eax=5 / next
-ecx=8049004;seen;ecx=8049003;widen;edi=8049000;eax=7|F3 AB|next / next ecx=any edi=8049004 m=[8049000]4=7 d=8049000+4 / stay ecx=any edi=8049004 m=[8049000]4=7 d=8049000+4 / w 8049000+4
-eax=8049004;seen;eax=8049003;widen;esp=8049008|FF D0|! target / w 8049004+4";
+!83 E0 0F|C7 00 01 00 00 00|none
+!83 E0 0F;!05 F0 0F 00 00|C6 00 01|none
+!83 E0 0F;!05 F0 0F 00 00|C7 00 01 00 00 00|! store
+!83 E0 0F;!05 F0 FF FF FF|C7 00 01 00 00 00|none
+!83 E0 0F;!05 00 00 00 F0|C7 00 01 00 00 00|none
+!83 E0 0F;!05 F0 FF FF EF|C6 00 01|next d=EFFFFFF0+10 / w EFFFFFF0+10
+!83 E0 0F;!05 F0 FF FF EF|C7 00 01 00 00 00|! store
+!83 E0 0F;!05 00 10 00 00|C6 00 01|next d=1000+10 / w 1000+10
+!83 E0 0F;!05 00 10 00 00|C7 00 01 00 00 00|! store
+!83 E0 0F;!05 00 90 04 08|C6 00 01|next d=8049000+10 / w 8049000+10
+!83 E0 0F;!05 00 90 04 08|C7 00 01 00 00 00|next d=8049000+10 / w 8049000+10
+!83 E0 0F;!05 10 90 04 08|C6 00 01|none
+!83 E0 0F;!05 10 90 04 08|C7 00 01 00 00 00|! store
+!83 E0 0F;!05 00 A0 04 08|C6 00 01|next d=804A000+4,804A008+8 / w 804A000+4 / w 804A008+8
+!83 E0 0F;!05 00 A0 04 08|C7 00 01 00 00 00|next d=804A000+4,804A008+B / w 804A000+4 / w 804A008+B
+!83 E0 0F;!05 00 00 00 20|C6 00 01|! store
+[1000]4=1;[804900C]4=2;[804A010]4=3;!83 E0 0F;!05 00 90 04 08|C7 00 05 00 00 00|next m=[1000]4=1,[804A010]4=3 d=1000+4,8049000+10,804A010+4 / w 8049000+10
+[804A00E]4=2;[804A013]1=3;!83 E0 0F;!05 00 A0 04 08|C7 00 05 00 00 00|next m=[804A013]1=3 d=804A000+4,804A008+C / w 804A000+4 / w 804A008+B
+!83 E0 0F;!05 00 90 04 08;!83 7C 24 08 02|C6 00 01|next d=8049000+10 / w 8049000+10
+# Several numbers are no number, and are refined as what is not known
+!83 E0 0F;!05 00 90 04 08|FF E0|! target
+!83 E0 0F;!05 00 90 04 08|89 05 00 90 04 08|next m=[8049000]4=8049000..804900F d=8049000+4 / w 8049000+4
+!83 E0 0F;!3D 05 00 00 00|74 10|8048012 eax=5 / next
+!83 E0 0F;!3D 05 00 00 00|76 10|8048012 eax=0 / 8048012 eax=1 / 8048012 eax=2 / 8048012 eax=3 / 8048012 eax=4 / 8048012 eax=5 / next
+!83 E1 0F;edi=8049000;eax=7|F3 AB|next / next ecx=any edi=8049004 m=[8049000]4=7 d=8049000+4 / stay ecx=any edi=8049004 m=[8049000]4=7 d=8049000+4 / w 8049000+4
+!83 E0 0F;!05 00 90 04 08;esp=8049008|FF D0|! target / w 8049004+4";

@@ -1,7 +1,7 @@
 use Rattle.std.proofs.Common.{rules}
 use Rattle.std.proofs.lemmas.Fn.{always_returns_same}
 use Rattle.partitioned_memory.specs.Held.{count_before}
-use Rattle.partitioned_memory.proofs.BuiltParts.{sorted}
+use Rattle.memory_map.proofs.Ascending.{sorted}
 use Rattle.partitioned_memory.proofs.counts.counts_ascend.Goals as goal
 
 pub returns : goal.returns

@@ -1,7 +1,7 @@
 use Rattle.std.proofs.Common.{◌∙◌, ◌≤◌, ap, arith, length, sym, unwrap_or}
 use Rattle.std.proofs.lemmas.List.{length-map}
 use Rattle.toml.specs.View.{table_view, view}
-use Rattle.stub_file.specs.Document.{number_at}
+use Rattle.stub_file.specs.Document.{natural_at}
 use Rattle.stub_file.specs.Faults.{args_of}
 use Rattle.stub_file.specs.Stated.{IsStubOf, IsWrite}
 use Rattle.stub_file.specs.declared.keys.Key.TheVariants as key
@@ -13,13 +13,13 @@ pub byte_at-requires : goal.byte_at-requires
 unfolding args_of
 byte_at-requires c =
     let t = table_view c.args.table.now in
-    let few : unwrap_or (number_at key.Args t) 0 ≤ 64 = args_few t (whole t c.requires) in
+    let few : unwrap_or (natural_at key.Args t) 0 ≤ 64 = args_few t (whole t c.requires) in
     omega arith
 
 pub byte_at-requires-2 : goal.byte_at-requires-2
 byte_at-requires-2 c =
     let t = table_view c.args.table.now in
-    let few : unwrap_or (number_at key.Cleans t) 0 ≤ 64 = cleans_fit _ _ t (whole t c.requires).stub in
+    let few : unwrap_or (natural_at key.Cleans t) 0 ≤ 64 = cleans_fit _ _ t (whole t c.requires).stub in
     omega arith
 
 pub reply_at-requires : goal.reply_at-requires

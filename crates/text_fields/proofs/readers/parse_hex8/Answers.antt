@@ -6,4 +6,4 @@ pub returns-then-text-ne8-clause-digits : goal.returns-then-text-ne8-clause-digi
 returns-then-text-ne8-clause-digits c = λ n small. no_hex8 n c.args.text.now (search rules)
 
 pub returns-clause-digits : goal.returns-clause-digits
-returns-clause-digits c = λ n small. rw c.number_of.ensures.value (reads_hex8 n c.args.text.now (search rules) small)
+returns-clause-digits c = λ n small. rw c.parse_hex.ensures.value (reads_hex8 n c.args.text.now (search rules) small)

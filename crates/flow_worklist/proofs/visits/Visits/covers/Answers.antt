@@ -1,5 +1,5 @@
 -- The index finds a row that covers a state where there is one.
-use Rattle.std.proofs.Common.{◌≡◌, List, Option, Some, map, option_map, sym, ◌∙◌, ap, subst}
+use Rattle.std.proofs.Common.{Option, map, option_map, sym, ◌∙◌, ap, subst}
 use Rattle.std.specs.List.{list_any}
 use Rattle.domain_laws.specs.Made.{values_of}
 use Rattle.flow_log.specs.Log.{Row, rows_at}

@@ -1,12 +1,10 @@
 -- The index is one of the states still.
-use Rattle.std.proofs.Common.{◌≡◌, Box, Global, List, Option, map, option_map, sym, ◌∙◌, ap, subst}
+use Rattle.std.proofs.Common.{Box, Global, List, Option, map, option_map, sym, ◌∙◌, ap, subst}
 use Rattle.std.specs.Prelude.{slice_get}
 use Rattle.domain_laws.specs.Made.{values_of}
 use Rattle.flow_log.specs.Log.{states_at}
 use Rattle.abstract_state.specs.declared.seen.Holder.{Holder}
-use Rattle.flow_worklist.specs.declared.row_index.RowIndex.{RowIndex}
 use Rattle.flow_worklist.specs.Exploring.{IsSeenOf}
-use Rattle.flow_worklist.specs.Grouping.{HasPlace}
 use Rattle.flow_worklist.proofs.visits.Visits.index_many.Goals as goal
 
 pub returns : goal.returns
@@ -19,5 +17,5 @@ returns g c =
       numbers = ap (λ v. map (slice_get rows) v.items) c.in_ok-index.ensures.numbers ∙ c.requires.numbers;
       well = c.requires.well;
       seen = subst P (sym c.in_ok-index.ensures.seen) c.requires.seen;
-      indexed = λ place s at. c.in_ok-part.ensures place s (subst (λ (x : RowIndex). HasPlace d x place s) (sym c.deref_mut.ensures.value) (c.in_ok-index.ensures.index place s at));
+      indexed = c.in_ok-index.ensures.index;
     }

@@ -1,5 +1,5 @@
 -- What is kept, or made, is what the states of the rows hold.
-use Rattle.std.proofs.Common.{◌≡◌, Box, Global, List, Option, option_map, sym, ◌∙◌, ap, subst}
+use Rattle.std.proofs.Common.{Box, Global, List, Option, option_map, sym, ◌∙◌, ap, subst}
 use Rattle.domain_laws.specs.Made.{values_of}
 use Rattle.flow_log.specs.Log.{rows_at, states_at}
 use Rattle.abstract_state.specs.declared.seen.Holder.{Holder}

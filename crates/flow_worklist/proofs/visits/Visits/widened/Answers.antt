@@ -1,5 +1,5 @@
 -- Fewer than k rows raise nothing; of more, what they hold is kept.
-use Rattle.std.proofs.Common.{◌≡◌, ◌<◌, [], length, List, sym, ◌∙◌, ap, arith, rules}
+use Rattle.std.proofs.Common.{◌≡◌, ◌<◌, length, List, sym, ◌∙◌, ap, arith, rules}
 use Rattle.std.proofs.lemmas.Result.{IfOk-weaker}
 use Rattle.domain_laws.specs.Made.{values_of}
 use Rattle.flow_log.specs.Log.{states_at}

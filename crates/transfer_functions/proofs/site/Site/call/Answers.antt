@@ -1,6 +1,6 @@
 use Rattle.std.proofs.Common.{◌≡◌, ◌∙◌, None, subst, sym}
 use Rattle.domain_laws.specs.Made.{values_of}
-use Rattle.x86_semantics.specs.Operands.{next_address}
+use Rattle.x86_syntax.specs.Text.{next_address}
 use Rattle.abstract_state.specs.Expanding.{Path}
 use Rattle.transfer_functions.specs.Flow.{landing}
 use Rattle.transfer_functions.specs.Values.{operand_value}

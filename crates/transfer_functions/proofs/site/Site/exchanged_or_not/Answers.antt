@@ -1,7 +1,7 @@
 use Rattle.std.proofs.Common.{◌∙◌, ap}
 use Rattle.std.proofs.lemmas.Result.{IfOk-weaker}
 use Rattle.domain_laws.specs.Made.{values_of}
-use Rattle.x86_semantics.specs.Operands.{next_address}
+use Rattle.x86_syntax.specs.Text.{next_address}
 use Rattle.abstract_state.specs.Expanding.{Path, joined}
 use Rattle.transfer_functions.specs.Exchanges.{exchanged, not_exchanged}
 use Rattle.transfer_functions.proofs.site.Site.exchanged_or_not.Goals as goal

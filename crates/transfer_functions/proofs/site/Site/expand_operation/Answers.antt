@@ -2,7 +2,7 @@ use Rattle.std.proofs.Common.{◌≡◌, subst, sym}
 use Rattle.std.specs.Prelude.{IfOk}
 use Rattle.domain_laws.specs.Made.{values_of}
 use Rattle.x86_semantics.specs.declared.operation.Operation.{Operation}
-use Rattle.x86_semantics.specs.Operands.{next_address}
+use Rattle.x86_syntax.specs.Text.{next_address}
 use Rattle.abstract_state.specs.Expanding.{Path, starts}
 use Rattle.transfer_functions.specs.Arithmetic.{combine, carry, compare}
 use Rattle.transfer_functions.specs.Post.{expand_operation}

@@ -3,7 +3,8 @@ use Rattle.std.proofs.Math.Facts.{to_z-of_z}
 use Rattle.std.proofs.lemmas.Result.{IfOk-weaker}
 use Rattle.domain_laws.specs.Made.{values_of}
 use Rattle.abstract_state.specs.Expanding.{joined, starts}
-use Rattle.x86_semantics.specs.Operands.{branch_target, next_address}
+use Rattle.x86_syntax.specs.Text.{next_address}
+use Rattle.x86_semantics.specs.Operands.{branch_target}
 use Rattle.transfer_functions.specs.Flow.{lands_each, states_where}
 use Rattle.transfer_functions.proofs.site.Site.jump.Goals as goal
 
