@@ -35,6 +35,8 @@ mod made_images;
 #[cfg(test)]
 mod memory_tests;
 #[cfg(test)]
+mod parts_tests;
+#[cfg(test)]
 mod record_tests;
 mod recover;
 #[cfg(test)]
@@ -48,6 +50,8 @@ mod sample_files;
 mod sample_tests;
 #[cfg(test)]
 mod second_list_tests;
+#[cfg(test)]
+mod spots_tests;
 #[cfg(test)]
 mod state_tests;
 #[cfg(test)]

@@ -26,8 +26,8 @@ fn has_many(blocks: &[Counted], region: Region) -> bool
     blocks.iter().any(|c| c.is_many_of(region))
 }
 
-// Whether a region has a count.
-pub(crate) fn is_counted(blocks: &[Counted], region: Region) -> bool
+/// Whether a region has a count.
+pub fn is_counted(blocks: &[Counted], region: Region) -> bool
     ensures { result ≡ is_counted region blocks.now }
 {
     blocks.iter().any(|c| c.is_of(region))

@@ -21,6 +21,7 @@ mod stretches;
 
 pub use area::Area;
 pub use building::{are_well, may_hold};
+pub use count_list::is_counted;
 pub use fact::{Counted, Dirty, Fact, Held, Spot};
 pub use laws::{calls_are_right, spots_are_ordered, spread_is_apart};
 pub use parts::Parts;

@@ -276,5 +276,3 @@ impl<D: Domain> Parts<D> {
 }
 
 mod build;
-#[cfg(test)]
-mod tests;

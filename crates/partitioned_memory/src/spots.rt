@@ -236,5 +236,3 @@ fn leaves_around<V: Copy, S: Stretch<V>>(
 }
 
 mod build;
-#[cfg(test)]
-mod tests;

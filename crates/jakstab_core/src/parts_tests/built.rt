@@ -1,5 +1,5 @@
 use super::*;
-use crate::are_well;
+use partitioned_memory::are_well;
 
 type FactRow = (Area, i64, Width, FlatNumbers);
 

@@ -1,4 +1,5 @@
-ghost use Rattle.std.specs.Prelude.{IsTrue, pos, ◌≤ℤ◌};
+// What partitioned_memory knows after calls, and of which lists parts are built.
+ghost use Rattle.std.specs.Prelude.{IfOk, IsTrue, pos, ◌≤ℤ◌};
 ghost use Rattle.bit_words.specs.Width.{bytes_of};
 ghost use Rattle.domain_laws.specs.Made.{values_of};
 ghost use Rattle.domain_laws.specs.Reached.{named};
@@ -7,11 +8,13 @@ ghost use Rattle.partitioned_memory.specs.Well.{FitsWidth, HasCount, MayHold};
 
 mod built;
 
-use super::*;
-use crate::count_list::is_counted;
-use crate::fact::Spot;
-use domain_laws::{FlatNumbers, Reach};
-use memory_map::{Bytes, Perm, Segment, Span};
+use crate::made_images::rising;
+use address_regions::Region;
+use bit_words::Width;
+use domain_laws::{Domain, FlatNumbers, Reach};
+use memory_map::{Perm, Ranges, Segments, Span};
+use partitioned_memory::{Area, Counted, Dirty, Fact, Parts, Spot, is_counted};
+use std::alloc::Global;
 use std::process::Abort;
 use std::test::Fail;
 
@@ -67,43 +70,49 @@ struct Sample {
 }
 
 fn make_sample(alloc: Global) -> Result<Sample, Fail> {
-    let bytes = [0, 1, 2, 3, 4, 5, 6, 7, 8, 9, 10, 11, 12, 13, 14, 15].to_vec(alloc)?;
     let mut list = Vec::new(alloc);
-    list.push(Segment {
-        low: 0x2000,
-        bytes: Bytes::from_vec(bytes),
-        perm: Perm::new(true, false),
-    })?;
+    list.push(rising(alloc, 0x2000, 16, 0, Perm::new(true, false))?)?;
     let unset = Ranges::from_vec([Span {
         low: 0x2008,
         size: 2,
     }]
     .to_vec(alloc)?);
-    match Segments::new(list) {
-        Ok(segments) => Ok(Sample { segments, unset }),
-        Err(_) => Err(Fail::from("refused")),
+    let segments = Segments::new(list)?;
+    Ok(Sample { segments, unset })
+}
+
+// ---- the tests of what the calls ask for
+
+fn area_counts(blocks: &[Counted], area: Area) -> bool
+    ensures { IsTrue result → HasCount blocks.now (block_in area) }
+{
+    match area {
+        Area::Image => true,
+        Area::In(region) => region.has_one_base() || is_counted(blocks, region),
     }
 }
 
-// The tests of what the calls ask for.
-impl<D: Domain> Parts<D> {
-    fn counts(&self, area: Area) -> bool
-        ensures { IsTrue result → HasCount self.now.blocks (block_in area) }
-    {
-        match area {
-            Area::Image => true,
-            Area::In(region) => region.has_one_base() || is_counted(&self.blocks, region),
-        }
+fn value_counts<D: Domain>(blocks: &[Counted], v: D) -> bool
+    ensures { IsTrue result → HasCount blocks.now (named (D.reach v)) }
+{
+    match v.reach() {
+        Reach::Place { region, .. } => area_counts(blocks, Area::In(region)),
+        Reach::Number { .. } | Reach::Anywhere => true,
     }
+}
 
-    fn counts_value(&self, v: D) -> bool
-        ensures { IsTrue result → HasCount self.now.blocks (named (D.reach v)) }
-    {
-        match v.reach() {
-            Reach::Place { region, .. } => self.counts(Area::In(region)),
-            Reach::Number { .. } | Reach::Anywhere => true,
-        }
-    }
+fn counts<D: Domain>(parts: &Parts<D>, area: Area) -> Result<bool, Fail>
+    ensures { IfOk result (λ is. IsTrue is → HasCount parts.now.blocks (block_in area)) }
+{
+    let blocks = parts.copy_blocks()?;
+    Ok(area_counts(&blocks, area))
+}
+
+fn counts_value<D: Domain>(parts: &Parts<D>, v: D) -> Result<bool, Fail>
+    ensures { IfOk result (λ is. IsTrue is → HasCount parts.now.blocks (named (D.reach v))) }
+{
+    let blocks = parts.copy_blocks()?;
+    Ok(value_counts(&blocks, v))
 }
 
 fn lies_inside(area: Area, low: i64, w: Width) -> bool
@@ -133,10 +142,11 @@ fn fits<D: Domain>(w: Width, v: D) -> bool
     }
 }
 
-fn may_hold<D: Domain>(parts: &Parts<D>, w: Width, v: D) -> bool
-    ensures { IsTrue result → MayHold (values_of D.Domain.own D.eq) parts.now.blocks w v }
+fn may_hold<D: Domain>(parts: &Parts<D>, w: Width, v: D) -> Result<bool, Fail>
+    ensures { IfOk result (λ is. IsTrue is → MayHold (values_of D.Domain.own D.eq) parts.now.blocks w v) }
 {
-    fits(w, v) && parts.counts_value(v)
+    let is_counted = counts_value(parts, v)?;
+    Ok(fits(w, v) && is_counted)
 }
 
 fn put_exact<D: Domain>(
@@ -148,8 +158,8 @@ fn put_exact<D: Domain>(
     v: D,
 ) -> Result<(), Fail> {
     assert!(rt; lies_inside(area, low, w));
-    assert!(rt; parts.counts(area));
-    assert!(rt; may_hold(parts, w, v));
+    assert!(rt; counts(parts, area)?);
+    assert!(rt; may_hold(parts, w, v)?);
     parts.write_exact(area, low, w, v)?;
     Ok(())
 }
@@ -162,7 +172,7 @@ fn put_inside<D: Domain>(
     high: i64,
 ) -> Result<(), Fail> {
     assert!(rt; high < low || reaches_inside(area, low, high));
-    assert!(rt; parts.counts(area));
+    assert!(rt; counts(parts, area)?);
     parts.write_inside(area, low, high)?;
     Ok(())
 }
@@ -183,7 +193,7 @@ fn take_step<D: Domain>(
             parts.add_block(region)?;
         }
         Step::Put(area, low, w, v) => {
-            assert!(rt; may_hold(parts, w, v));
+            assert!(rt; may_hold(parts, w, v)?);
             parts.put_fact(area, low, w, v)?;
         }
         Step::Read(area, low, w, want) => {

@@ -1,6 +1,7 @@
-use super::*;
-use crate::area::Area;
+// Lists of pairs by their spots, of partitioned_memory.
 use address_regions::Region;
+use partitioned_memory::{Area, Spot, Spots};
+use std::alloc::Global;
 use std::process::Abort;
 use std::test::Fail;
 
